@@ -3,6 +3,7 @@ pub mod Streams
 pub mod Matches
 pub mod Rows
 pub mod Runs
+pub mod Kept
 pub mod Told
 pub mod Explaining
 pub mod LineLemmas

@@ -1,23 +1,34 @@
--- What the program says of a fault: its line, or that of a refused query with an explanation.
+-- What the program says of a fault: its line, or that of a refused query or document with an explanation.
 use Rattle.std.proofs.Common.{◌≡◌, ◌⊎◌, inl, inr, ℕ, Bool, true, List, Option, Err, subst, sym}
 use Rattle.jp_check.specs.declared.profile.Profile.{Profile}
-use Rattle.jp_command.specs.Line.{EndsAs, RunsLine, TellsExplained, explained, fault, fault_line}
-use Rattle.jp_command.specs.Line.{status_of}
+use Rattle.jp_document.specs.declared.fault.DocumentFault.{DocumentFault}
+use Rattle.jp_command.specs.Line.{EndsAs, RunsLine, TellsExplained, TellsMisread, explained, fault}
+use Rattle.jp_command.specs.Line.{fault_line, misread, status_of}
 use Rattle.jp_command.specs.Output.{AppendsPrefix}
-use Rattle.jp_command.specs.Private.Asked.{TellsFault, line_alone, with_explanation}
+use Rattle.jp_command.specs.Private.Asked.{TellsFault, line_alone, with_explanation, with_misreading}
+use Rattle.jp_command.specs.Private.Kept.{KeepsRead}
 use Rattle.jp_command.specs.declared.fault.Fault.{Fault}
-use Rattle.jp_command.specs.declared.fault.Fault.TheVariants.{Query}
+use Rattle.jp_command.specs.declared.fault.Fault.TheVariants.{Query, Document}
 use Rattle.jp_query.specs.declared.refusal.Refusal.{Refusal}
 
 -- what is told of a refused query that the words ask to explain
 pub tells-refusal : (old new : Option (List ℕ)) (explains : Bool) (profile : Profile)
-    (query : List ℕ) (r : Refusal) (f : Fault) → f ≡ Query r → explains ≡ true
+    (query bytes : List ℕ) (r : Refusal) (f : Fault) → f ≡ Query r → explains ≡ true
     → AppendsPrefix old new (fault_line (Query r)) ⊎ TellsExplained profile query r old new
-    → TellsFault old new explains profile query f
-tells-refusal old new explains profile query r f is asks (inl prefix) =
+    → TellsFault old new explains profile query bytes f
+tells-refusal old new explains profile query bytes r f is asks (inl prefix) =
     line_alone (subst (λ g. AppendsPrefix old new (fault_line g)) (sym is) prefix)
-tells-refusal old new explains profile query r f is asks (inr told) =
+tells-refusal old new explains profile query bytes r f is asks (inr told) =
     with_explanation r is asks told
+
+-- the same of a document
+pub tells-document : (old new : Option (List ℕ)) (explains : Bool) (profile : Profile)
+    (query bytes : List ℕ) (d : DocumentFault) (f : Fault) → f ≡ Document d → explains ≡ true
+    → AppendsPrefix old new (fault_line f) ⊎ TellsMisread bytes f old new
+    → TellsFault old new explains profile query bytes f
+tells-document old new explains profile query bytes d f is asks (inl prefix) = line_alone prefix
+tells-document old new explains profile query bytes d f is asks (inr told) =
+    with_misreading d is asks (subst (λ g. TellsMisread bytes g old new) is told)
 
 module _ {R W E : Type 0} (remaining : R → Option (List ℕ)) (has_failed : R → Bool)
     (read_gives : R → Option (List ℕ) → R → Type 0) (contents : W → Option (List ℕ))
@@ -32,10 +43,23 @@ module _ {R W E : Type 0} (remaining : R → Option (List ℕ)) (has_failed : R 
   Says = RunsLine remaining has_failed read_gives contents writes_failed write_takes reports
       words i j o p u v status
 
-  pub says-fault : (profile : Profile) (f : Fault) (run : Ended profile f) → status ≡ status_of f
-      → TellsFault (reports u) (reports v) run.explains profile run.query f → Says
-  says-fault profile f run is (line_alone prefix) = fault profile f is run prefix
-  says-fault profile f run is (with_explanation r same asks told) =
+  abbrev Keeps : Profile → List ℕ → List ℕ → Fault → Type 0
+  Keeps profile query =
+      KeepsRead profile remaining has_failed read_gives contents writes_failed query i j
+
+  pub says-fault : (profile : Profile) (bytes : List ℕ) (f : Fault) (run : Ended profile f)
+      → status ≡ status_of f → Keeps profile run.query bytes f
+      → TellsFault (reports u) (reports v) run.explains profile run.query bytes f → Says
+  says-fault profile bytes f run is kept (line_alone prefix) = fault profile f is run prefix
+  says-fault profile bytes f run is kept (with_misreading d same asks told) =
+      let P : Fault → Type 0 = λ g. (ended : Ended profile g) → status ≡ status_of g
+      → ended.explains ≡ true → Keeps profile ended.query bytes g
+      → TellsMisread bytes (Document d) (reports u) (reports v) → Says in
+      subst P (sym same)
+      (λ ended is asks kept told. misread profile d is ended asks kept.0
+      (subst (λ read. TellsMisread read (Document d) (reports u) (reports v)) kept.1 told))
+      run is asks kept told
+  says-fault profile bytes f run is kept (with_explanation r same asks told) =
       let P : Fault → Type 0 = λ g. (ended : Ended profile g) → status ≡ status_of g
       → ended.explains ≡ true → TellsExplained profile ended.query r (reports u) (reports v)
       → Says in

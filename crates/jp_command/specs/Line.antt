@@ -4,6 +4,10 @@ use Rattle.std.specs.Prelude.{◌≡◌, ℕ, Bool, true, List, ◌++◌, Option
 use Rattle.std.specs.Prelude.{codes}
 use Rattle.jp_check.specs.declared.profile.Profile.{Profile}
 use Rattle.jp_document.specs.Faults.{document_fault_name}
+use Rattle.jp_document.specs.declared.fault.DocumentFault.{DocumentFault}
+use Rattle.jp_json.specs.Misreading.{IsMisreading}
+use Rattle.jp_json.specs.Told.{misreading_text}
+use Rattle.jp_json.specs.declared.misreading.Misreading.{Misreading}
 use Rattle.jp_query.specs.Refusal.{refusal_text}
 use Rattle.jp_query.specs.declared.refusal.Refusal.{Refusal}
 use Rattle.jp_command.specs.Canon.{RunsCanon, canon_line}
@@ -11,7 +15,7 @@ use Rattle.jp_command.specs.Check.{RunsCheck, accepted_line}
 use Rattle.jp_command.specs.CommandLine.{asked}
 use Rattle.jp_command.specs.Explained.{IsExplanation}
 use Rattle.jp_command.specs.QueryLine.{IsQueryLine}
-use Rattle.jp_command.specs.Run.{IsOutput, RunsEval}
+use Rattle.jp_command.specs.Run.{IsOutput, RefusesDocument, RunsEval}
 use Rattle.jp_command.specs.Output.{AppendsPrefix, AppendsSome}
 use Rattle.jp_command.specs.Writes.{WritesByCalls}
 use Rattle.jp_command.specs.declared.fault.Fault.{Fault}
@@ -54,6 +58,17 @@ abbrev pub TellsExplained : Profile → List ℕ → Refusal → Option (List �
 TellsExplained profile query r old new =
     (text : List ℕ) × IsExplainedLine profile query r text × AppendsPrefix old new text
 
+-- the line of that fault, and behind it how the bytes are misread, which a newline ends
+pub record IsMisreadLine (bytes : List ℕ) (f : Fault) (text : List ℕ) : Type 0 where
+  pub m : Misreading
+  pub misread : IsMisreading bytes m
+  pub is : text ≡ fault_line f ++ (misreading_text m ++ codes "\n")
+
+-- a prefix of them is told
+abbrev pub TellsMisread : List ℕ → Fault → Option (List ℕ) → Option (List ℕ) → Type 0
+TellsMisread bytes f old new =
+    (text : List ℕ) × IsMisreadLine bytes f text × AppendsPrefix old new text
+
 -- i and j are the input before and after a run, o and p the output
 module _ (profile : Profile) {R W : Type 0} (remaining : R → Option (List ℕ))
     (has_failed : R → Bool) (read_gives : R → Option (List ℕ) → R → Type 0)
@@ -76,7 +91,7 @@ module _ (profile : Profile) {R W : Type 0} (remaining : R → Option (List ℕ)
       IsOutput profile remaining has_failed read_gives contents writes_failed form query i j
 
   -- the task that the words ask for, in that profile, ended with this answer; and whether they ask
-  -- for an explanation of a refused query
+  -- for an explanation of a refused query or document
   pub record RunsWords {X : Type 0} (write_takes : W → Option (List ℕ) → W → Type 0)
       (words : List (List ℕ)) (i j : R) (o p : W) (answer : Result X Fault) : Type 0 where
     pub task : Task
@@ -96,9 +111,10 @@ module _ {R W : Type 0} (remaining : R → Option (List ℕ)) (has_failed : R �
       RunsWords profile remaining has_failed read_gives contents writes_failed write_takes
 
   -- what is said with a status; u and v are what takes the fault's line, before and after. Behind
-  -- that of a refused query stands an explanation only where the words ask for it, and then unless
-  -- memory ran out for it. Where the words are not ones that the command line takes, clap's text is
-  -- told, of which its contract says nothing
+  -- that of a refused query stands an explanation only where the words ask for it, and behind that of
+  -- a refused document how the bytes that were read are misread; and then unless memory ran out for
+  -- it. Where the words are not ones that the command line takes, clap's text is told, of which its
+  -- contract says nothing
   pub data RunsLine {E : Type 0} (reports : E → Option (List ℕ)) (words : List (List ℕ))
       (i j : R) (o p : W) (u v : E) (status : ℕ) : Type 0 where
     done : (profile : Profile) → status ≡ 0 → EndsAs profile words i j o p (Ok tt) → v ≡ u
@@ -110,6 +126,12 @@ module _ {R W : Type 0} (remaining : R → Option (List ℕ)) (has_failed : R �
     explained : (profile : Profile) (r : Refusal) → status ≡ status_of (Query r)
         → (run : EndsAs profile words i j o p (Err (Query r))) → run.explains ≡ true
         → TellsExplained profile run.query r (reports u) (reports v)
+        → RunsLine reports words i j o p u v status
+    misread : (profile : Profile) (f : DocumentFault) → status ≡ status_of (Document f)
+        → (run : EndsAs profile words i j o p (Err (Document f))) → run.explains ≡ true
+        → (refused : RefusesDocument profile remaining has_failed read_gives contents writes_failed
+        run.query i j f)
+        → TellsMisread refused.bytes (Document f) (reports u) (reports v)
         → RunsLine reports words i j o p u v status
     usage : status ≡ 2 → asked words ≡ None → j ≡ i → p ≡ o
         → AppendsSome (reports u) (reports v) → RunsLine reports words i j o p u v status

@@ -1,8 +1,9 @@
 -- What the contracts of private functions alone cite: what words ask for, lines written as nodes are
--- found, the front of paths, what a line shows of a node, and how runs stop.
+-- found, the front of paths, what a line shows of a node, how runs stop, and what they keep then.
 pub mod AsFound
 pub mod Asked
 pub mod Faults
 pub mod Fronts
+pub mod Kept
 pub mod Shown
 pub mod Stops

@@ -2,6 +2,7 @@
 
 ghost use Rattle.std.specs.Prelude.{◌⊎◌, IfErr, IfOk};
 ghost use Rattle.jp_tree.specs.Views.{query_of};
+ghost use Rattle.jp_command.specs.Private.Kept.{KeepsRead};
 ghost use Rattle.jp_command.specs.Run.{IsAsked, IsOutput, RanOut, RefusesQuery, RunsEval};
 ghost use Rattle.jp_command.specs.Writes.{WritesByCalls};
 
@@ -45,17 +46,47 @@ pub fn run_eval<R: Source, W: Writer>(
         R.read_gives W.contents W.has_failed form query.now input.old input.new)
         output.old output.new result }
 {
+    run_eval_keeping(
+        alloc,
+        query,
+        profile,
+        form,
+        input,
+        &mut Vec::new(alloc),
+        output,
+    )
+}
+
+/// The same, and after `Document` what was read is in `kept`.
+pub(crate) fn run_eval_keeping<R: Source, W: Writer>(
+    alloc: Global,
+    query: &str,
+    profile: Profile,
+    form: Form,
+    input: &mut R,
+    kept: &mut Vec<u8>,
+    output: &mut W,
+) -> Result<(), Fault>
+    ensures says { RunsEval profile R.remaining R.has_failed R.read_gives W.contents W.has_failed
+        form query.now input.old input.new output.old output.new result }
+    ensures calls { WritesByCalls W.write_takes (IsOutput profile R.remaining R.has_failed
+        R.read_gives W.contents W.has_failed form query.now input.old input.new)
+        output.old output.new result }
+    ensures kept { IfErr result (KeepsRead profile R.remaining R.has_failed R.read_gives W.contents
+        W.has_failed query.now input.old input.new kept.new.items) }
+{
     let query = read_within_limit(alloc, query, profile)?;
-    let bytes = read_all(alloc, input)?;
+    *kept = read_all(alloc, input)?;
+    let bytes = kept.as_slice();
     let mut spare = Spare::new(alloc);
     match named_location(alloc, &query)? {
         Some(location) => {
-            let found = read_value_at(alloc, &bytes, &location)?;
+            let found = read_value_at(alloc, bytes, &location)?;
             let value = found_value(&found);
             write_found(alloc, form, "", &location, value, &mut spare.line, output)
         }
         None => {
-            let flat = read_flat(alloc, &bytes)?;
+            let flat = read_flat(alloc, bytes)?;
             write_selected(alloc, form, "", flat.value(), &query, &mut spare, output)
         }
     }

@@ -1,8 +1,9 @@
-//! What is told of a refused query where it is explained.
+//! What is told of a refused query or document where it is explained.
 
-ghost use Rattle.std.specs.Prelude.{◌⊎◌, IfOk, string_bytes};
+ghost use Rattle.std.specs.Prelude.{◌⊎◌, IfOk, IfSome, string_bytes};
 ghost use Rattle.jp_command.specs.Explained.{IsExplanation};
-ghost use Rattle.jp_command.specs.Line.{IsExplainedLine, TellsExplained, fault_line};
+ghost use Rattle.jp_command.specs.Line.{IsExplainedLine, IsMisreadLine, TellsExplained, TellsMisread};
+ghost use Rattle.jp_command.specs.Line.{fault_line};
 ghost use Rattle.jp_command.specs.Output.{AppendsPrefix};
 ghost use Rattle.jp_command.specs.declared.fault.Fault.TheVariants.{Query};
 
@@ -12,6 +13,7 @@ use crate::line::report;
 use crate::output::write_all;
 use jp_check::Profile;
 use jp_explain::{Reason, explain, explanation_text};
+use jp_json::find_misreading;
 use jp_query::{Refusal, RefusalKind};
 use std::alloc::{AllocError, Global};
 
@@ -70,5 +72,36 @@ fn explanation(
             format!(in alloc; "{sentence}\n")
         }
         _ => explanation_text(alloc, &explain(alloc, query, profile, refusal)?),
+    }
+}
+
+/// Writes the line of that fault of a document, which are these bytes, and behind it why and where they
+/// are none. Where there is no memory for that, the line is written alone, and what cannot be written
+/// is left out.
+pub(crate) fn report_misreading<E: Writer>(
+    alloc: Global,
+    fault: &Fault,
+    bytes: &[u8],
+    faults: &mut E,
+)
+    ensures { AppendsPrefix (E.contents faults.old) (E.contents faults.new) (fault_line fault.now)
+        ⊎ TellsMisread bytes.now fault.now (E.contents faults.old) (E.contents faults.new) }
+{
+    match misread_line(alloc, fault, bytes) {
+        Ok(Some(text)) => {
+            let _ = write_all(faults, text.as_bytes());
+        }
+        _ => report(alloc, fault, faults),
+    }
+}
+
+/// The line of a fault, and behind it why and where the bytes are no document; None where they are one.
+fn misread_line(alloc: Global, fault: &Fault, bytes: &[u8]) -> Result<Option<String>, AllocError>
+    ensures { IfOk result (λ found. IfSome found
+        (λ text. IsMisreadLine bytes.now fault.now (string_bytes text))) }
+{
+    match find_misreading(alloc, bytes)? {
+        Some(misreading) => Ok(Some(format!(in alloc; "{fault}\n{misreading}\n")?)),
+        None => Ok(None),
     }
 }

@@ -4,7 +4,8 @@
 pub(crate) const AFTER_HELP: &str = "\
 Each command takes one QUERY. eval, paths and both read a JSON document from standard input.
 With --extended before or after it, the query may also call the function distinct.
-With --explain a refused query is told with its place, the reason and what to try instead.
+With --explain a refused query is told with its place, the reason and what to try instead, and
+a refused document with its line, its column and the reason.
 
 Example: echo '[1,2]' | jp eval '$[-1]'
 

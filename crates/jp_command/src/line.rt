@@ -1,24 +1,24 @@
 //! The whole program over its words.
 
-ghost use Rattle.std.specs.Prelude.{◌≡◌, ◌≢◌, IfOk, map, string_bytes};
+ghost use Rattle.std.specs.Prelude.{◌≡◌, ◌≢◌, IfErr, IfOk, map, string_bytes};
 ghost use Rattle.std.specs.Cow.{cow_str_bytes};
 ghost use Rattle.clap.specs.Words.{kind_of};
 ghost use Rattle.jp_command.specs.Line.{IsWrittenBy, RunsLine, RunsTask, fault_line, status_of};
 ghost use Rattle.jp_command.specs.Private.Asked.{TellsFault};
+ghost use Rattle.jp_command.specs.Private.Kept.{KeepsRead};
 ghost use Rattle.jp_command.specs.Writes.{WritesByCalls};
 ghost use Rattle.jp_command.specs.Output.{AppendsPrefix, AppendsSome};
 
 use crate::canon::run_canon;
 use crate::check::run_check;
 use crate::device::{Output, Source, Writer};
-use crate::eval::run_eval;
-use crate::explained::report_refusal;
+use crate::eval::run_eval_keeping;
+use crate::explained::{report_misreading, report_refusal};
 use crate::fault::Fault;
 use crate::output::write_all;
 use crate::words::{Asked, Task, read_words};
 use clap::Error;
 use clap::error::ErrorKind;
-use jp_check::Profile;
 use std::alloc::{AllocError, Global};
 use std::borrow::CowStr;
 
@@ -27,8 +27,8 @@ use std::borrow::CowStr;
 /// line takes, 3 where the document is refused, 4 where the memory did not suffice, 5 where the
 /// input or the output failed. Every status but 0 has its line in `faults`, if it can be written
 /// there; with status 2 that is clap's own text. With the flag `--explain` the line of a refused
-/// query has an explanation behind it, if there is memory for that. The output is flushed once, after
-/// a run that is done.
+/// query or document has an explanation behind it, if there is memory for that. The output is flushed
+/// once, after a run that is done.
 pub fn run_line<R: Source, W: Output, E: Writer>(
     alloc: Global,
     words: Vec<String>,
@@ -41,77 +41,82 @@ pub fn run_line<R: Source, W: Output, E: Writer>(
         faults.old faults.new result }
 {
     match read_words(alloc, &words) {
-        Ok(asked) => match run_and_flush(
-            alloc,
-            asked.task,
-            asked.query,
-            asked.profile,
-            input,
-            output,
-        ) {
-            Ok(()) => 0,
-            Err(fault) => {
-                tell(alloc, &asked, &fault, faults);
-                status(&fault)
+        Ok(asked) => {
+            let mut kept = Vec::new(alloc);
+            match run_and_flush(alloc, &asked, input, &mut kept, output) {
+                Ok(()) => 0,
+                Err(fault) => {
+                    tell(alloc, &asked, &fault, kept.as_slice(), faults);
+                    status(&fault)
+                }
             }
-        },
+        }
         Err(error) => refuse_words(alloc, &error, faults),
     }
 }
 
-/// Runs a task, and flushes the output once that is done.
+/// Runs what is asked for, and flushes the output once that is done. After `Document` what was read is
+/// in `kept`.
 fn run_and_flush<R: Source, W: Output>(
     alloc: Global,
-    task: Task,
-    query: &str,
-    profile: Profile,
+    asked: &Asked<'_>,
     input: &mut R,
+    kept: &mut Vec<u8>,
     output: &mut W,
 ) -> Result<(), Fault>
-    ensures says { RunsTask profile R.remaining R.has_failed R.read_gives W.contents W.has_failed
-        task query.now input.old input.new output.old output.new result }
-    ensures calls { WritesByCalls W.write_takes (IsWrittenBy profile R.remaining R.has_failed
-        R.read_gives W.contents W.has_failed task query.now input.old input.new)
-        output.old output.new result }
+    ensures says { RunsTask asked.now.profile R.remaining R.has_failed R.read_gives W.contents
+        W.has_failed asked.now.task asked.now.query.now input.old input.new output.old output.new
+        result }
+    ensures calls { WritesByCalls W.write_takes (IsWrittenBy asked.now.profile R.remaining
+        R.has_failed R.read_gives W.contents W.has_failed asked.now.task asked.now.query.now
+        input.old input.new) output.old output.new result }
+    ensures kept { IfErr result (KeepsRead asked.now.profile R.remaining R.has_failed R.read_gives
+        W.contents W.has_failed asked.now.query.now input.old input.new kept.new.items) }
 {
-    run_task(alloc, task, query, profile, input, output)?;
+    run_task(alloc, asked, input, kept, output)?;
     match output.flush() {
         Ok(()) => Ok(()),
         Err(_) => Err(Fault::Write),
     }
 }
 
-/// Runs a task.
+/// Runs what is asked for. After `Document` what was read is in `kept`.
 fn run_task<R: Source, W: Writer>(
     alloc: Global,
-    task: Task,
-    query: &str,
-    profile: Profile,
+    asked: &Asked<'_>,
     input: &mut R,
+    kept: &mut Vec<u8>,
     output: &mut W,
 ) -> Result<(), Fault>
-    ensures says { RunsTask profile R.remaining R.has_failed R.read_gives W.contents W.has_failed
-        task query.now input.old input.new output.old output.new result }
-    ensures calls { WritesByCalls W.write_takes (IsWrittenBy profile R.remaining R.has_failed
-        R.read_gives W.contents W.has_failed task query.now input.old input.new)
-        output.old output.new result }
+    ensures says { RunsTask asked.now.profile R.remaining R.has_failed R.read_gives W.contents
+        W.has_failed asked.now.task asked.now.query.now input.old input.new output.old output.new
+        result }
+    ensures calls { WritesByCalls W.write_takes (IsWrittenBy asked.now.profile R.remaining
+        R.has_failed R.read_gives W.contents W.has_failed asked.now.task asked.now.query.now
+        input.old input.new) output.old output.new result }
+    ensures kept { IfErr result (KeepsRead asked.now.profile R.remaining R.has_failed R.read_gives
+        W.contents W.has_failed asked.now.query.now input.old input.new kept.new.items) }
 {
-    match task {
+    let (query, profile) = (asked.query, asked.profile);
+    match asked.task {
         Task::Check => run_check(alloc, query, profile, output),
         Task::Canon => run_canon(alloc, query, profile, output),
-        Task::Eval(form) => run_eval(alloc, query, profile, form, input, output),
+        Task::Eval(form) => run_eval_keeping(alloc, query, profile, form, input, kept, output),
     }
 }
 
-/// Writes the line of a fault, and behind it, where the words ask for that and the query is refused,
-/// why it is.
-fn tell<E: Writer>(alloc: Global, asked: &Asked<'_>, fault: &Fault, faults: &mut E)
+/// Writes the line of a fault, and behind it, where the words ask for that and the query or the
+/// document, of these bytes, is refused, why it is.
+fn tell<E: Writer>(alloc: Global, asked: &Asked<'_>, fault: &Fault, bytes: &[u8], faults: &mut E)
     ensures { TellsFault (E.contents faults.old) (E.contents faults.new) asked.now.is_explaining
-        asked.now.profile asked.now.query.now fault.now }
+        asked.now.profile asked.now.query.now bytes.now fault.now }
 {
     match fault {
         Fault::Query(refusal) if asked.is_explaining => {
             report_refusal(alloc, asked.query, asked.profile, *refusal, faults);
+        }
+        Fault::Document(_) if asked.is_explaining => {
+            report_misreading(alloc, fault, bytes, faults);
         }
         _ => report(alloc, fault, faults),
     }

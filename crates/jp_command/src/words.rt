@@ -100,7 +100,7 @@ fn task_command<'w>(
         alloc,
         command,
         "explain",
-        "Tells why a refused query is refused",
+        "Tells why a query or a document is refused",
     )
 }
 

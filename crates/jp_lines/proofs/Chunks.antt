@@ -1,17 +1,18 @@
 -- How far a run is in its input, as more bytes come.
 use Rattle.std.proofs.Common.{◌≡◌, inr, ℕ, ◌<◌, Bool, true, false, List, [], ◌∷◌, ◌++◌}
-use Rattle.std.proofs.Common.{length, Option, subst, refl, sym, ◌∙◌, ap, arith}
+use Rattle.std.proofs.Common.{length, Option, subst, refl, sym, ◌∙◌, ap, arith, string_bytes}
 use Rattle.std.proofs.lemmas.List.Folds.{list_all-append}
 use Rattle.jp_tree.specs.Tree.{QueryTree}
 use Rattle.jp_command.specs.Limits.{document_limit}
 use Rattle.jp_command.specs.declared.fault.Fault.TheVariants as fault
 use Rattle.jp_lines.specs.Lines.{lines_of_input, newline}
-use Rattle.jp_lines.specs.Outcome.{Refused, ComesTo, refused_for, too_large}
+use Rattle.jp_lines.specs.Outcome.{Refused, ComesTo, refused, too_large}
 use Rattle.jp_lines.specs.Run.{GoesToRefusal, StopsAmong}
 use Rattle.jp_lines.specs.Private.Passing.{EndsLine, Keeps, Passes, PassesOn, Standing}
 use Rattle.jp_lines.specs.Private.Passing.{StopsPassing, is_in_line, kept_of, standing}
 use Rattle.jp_lines.specs.Private.Treating.{StopsEnding}
 use Rattle.jp_lines.specs.declared.defect.Defect.TheVariants.{TooLarge}
+use Rattle.jp_lines.specs.declared.defect.RefusedLine.{RefusedLine}
 use Rattle.jp_lines.specs.declared.options.Options.{Options}
 use Rattle.jp_lines.specs.declared.passing.Progress.{Progress}
 use Rattle.jp_lines.specs.declared.stop.Stop.{Stop}
@@ -111,11 +112,12 @@ module _ (options : Options) {W E : Type 0} (contents : W → Option (List ℕ))
 
   -- the line has more bytes than a document may have
   pub on-stops_growing : (taken : List ℕ) (a b : Progress) (line : List ℕ) (o p : W) (u v : E)
-      → On taken a b line o p u v → document_limit < length b.line.items
+      (r : RefusedLine) → On taken a b line o p u v → document_limit < length b.line.items
+      → r.number ≡ b.number → r.defect ≡ TooLarge → string_bytes r.explanation ≡ []
       → options.keep_going ≡ false
       → GoesToRefusal options contents writes_failed reports reports_failed q a.number
-      (lines_of_input (line ++ taken)) (false ≡ true) 0 (refused_for b.number TooLarge) o p u v
-  on-stops_growing taken a b line o p u v on many stops = record {
+      (lines_of_input (line ++ taken)) (false ≡ true) 0 r o p u v
+  on-stops_growing taken a b line o p u v r on many number defect behind stops = record {
     lines = on.passes.lines;
     line = on.next;
     rest = [];
@@ -124,10 +126,10 @@ module _ (options : Options) {W E : Type 0} (contents : W → Option (List ℕ))
     goes = on.passes.over.goes;
     unrefused = not_then _ _ on.passes.over.goes.allowed stops;
     comes = subst
-        (λ n. ComesTo options q n on.next (Refused (refused_for b.number TooLarge)))
-        on.passes.over.number
-        (too_large (kept-many on.next (rw on.keeps.1 at many)));
-    complete = inr (inr refl);
+        (λ n. ComesTo options q n on.next (Refused r)) on.passes.over.number
+        (refused TooLarge r (too_large (kept-many on.next (rw on.keeps.1 at many)))
+        (record { number_is = number; defect_is = defect; behind = behind }));
+    complete = inr (inr defect);
     answered = omega arith;
     stops = stops;
   }

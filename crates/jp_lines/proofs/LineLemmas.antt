@@ -21,9 +21,8 @@ use Rattle.jp_command.specs.declared.fault.Fault.TheVariants as fault
 use Rattle.jp_command.proofs.Streams.{Appends-keeps, prefix-whole}
 use Rattle.jp_lines.specs.Lines.{is_blank_line}
 use Rattle.jp_lines.specs.Outcome.{LineOutcome, Answered, Refused, ComesTo, blank, document}
-use Rattle.jp_lines.specs.Outcome.{no_document, steps_used_up}
-use Rattle.jp_lines.specs.Outcome.{lead_of, wanted_output}
-use Rattle.jp_lines.specs.Outcome.{refused_for, refused_text}
+use Rattle.jp_lines.specs.Outcome.{IsDefective, IsRefusal, no_document, refused, steps_used_up}
+use Rattle.jp_lines.specs.Outcome.{lead_of, told_of, wanted_output}
 use Rattle.jp_lines.specs.Run.{Goes, GoesInPart, WritesInPart}
 use Rattle.jp_lines.specs.Told.{Tells}
 use Rattle.jp_lines.specs.Private.Answers.{AnswersOrRefuses, AnswersInPart, AnswersLine}
@@ -34,6 +33,7 @@ use Rattle.jp_lines.specs.Private.Passing.{GoesThrough, Standing, kept_of}
 use Rattle.jp_lines.specs.Private.Treating.{Treats, StopsEnding}
 use Rattle.jp_lines.specs.declared.defect.Defect.{Defect}
 use Rattle.jp_lines.specs.declared.defect.Defect.TheVariants as defect
+use Rattle.jp_lines.specs.declared.defect.RefusedLine.{RefusedLine}
 use Rattle.jp_lines.specs.declared.options.Options.{Options}
 use Rattle.jp_lines.specs.declared.stop.Stop.{Stop}
 use Rattle.jp_lines.specs.declared.stop.Stop.TheVariants as stop
@@ -136,14 +136,14 @@ module _ (options : Options) {W E : Type 0} (contents : W → Option (List ℕ))
     quiet = λ e. refl;
   }
 
-  pub treats-refused : (defect : Defect) (o p : W) (u v : E) → Comes (Refused (refused_for n defect))
-      → p ≡ o → Tells reports reports_failed u v (refused_text (refused_for n defect) ++ codes "\n")
-      → options.keep_going ≡ true
+  pub treats-refused : (d : Defect) (r : RefusedLine) (o p : W) (u v : E)
+      → IsDefective options kept d → IsRefusal options n kept d r → p ≡ o
+      → Tells reports reports_failed u v (told_of (Refused r)) → options.keep_going ≡ true
       → Treats options contents writes_failed reports reports_failed q n line true o p u v
-  treats-refused defect o p u v comes same tells going = record {
-    outcome = Refused (refused_for n defect);
-    comes = comes-line _ comes;
-    writes = subst (λ r. WritesAll contents writes_failed o r []) (sym same)
+  treats-refused d r o p u v defective of same tells going = record {
+    outcome = Refused r;
+    comes = comes-line _ (refused d r defective of);
+    writes = subst (λ w. WritesAll contents writes_failed o w []) (sym same)
         (writes-none contents writes_failed o);
     tells = tells;
     is = refl;
@@ -220,15 +220,16 @@ module _ (options : Options) {W E : Type 0} (contents : W → Option (List ℕ))
   )
 
   -- its refusal stops the run, or there is no memory to tell it
-  pub stops-refusing : (defect : Defect) (o p : W) (u v : E) (why : Stop)
-      → Comes (Refused (refused_for n defect)) → p ≡ o → v ≡ u
+  pub stops-refusing : (d : Defect) (o p : W) (u v : E) (why : Stop) → IsDefective options kept d
+      → p ≡ o → v ≡ u
       → (why ≡ stop.Run fault.NoMemory)
-      ⊎ ((why ≡ stop.Line (refused_for n defect)) × (options.keep_going ≡ false))
+      ⊎ (((r : RefusedLine) × IsRefusal options n kept d r × (why ≡ stop.Line r))
+      × (options.keep_going ≡ false))
       → Ends o p u v why
-  stops-refusing defect o p u v why comes written told (inl is) =
+  stops-refusing d o p u v why defective written told (inl is) =
       subst (Ends o p u v) (sym is) (part-none o p u v written told, ap writes_failed written)
-  stops-refusing defect o p u v why comes written told (inr is) =
-      subst (Ends o p u v) (sym is.0) (record {
+  stops-refusing d o p u v why defective written told (inr is) =
+      subst (Ends o p u v) (sym is.0.2) (record {
         lines = [];
         line = line;
         rest = [];
@@ -239,8 +240,8 @@ module _ (options : Options) {W E : Type 0} (contents : W → Option (List ℕ))
             (subst (λ w. Goes options contents writes_failed reports reports_failed q n [] [] o o u w)
             (sym told) (goes-none options contents writes_failed reports reports_failed q n o u));
         unrefused = refl;
-        comes = subst (λ m. ComesTo options q m line (Refused (refused_for n defect)))
-            (omega arith) (comes-line _ comes);
+        comes = subst (λ m. ComesTo options q m line (Refused is.0.0)) (omega arith)
+            (comes-line _ (refused d is.0.0 defective is.0.1));
         complete = inr (inl tt);
         answered = omega arith;
         stops = is.1;

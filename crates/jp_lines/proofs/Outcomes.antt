@@ -3,10 +3,13 @@ use Rattle.std.proofs.Common.{◌≡◌, ℕ, suc, ◌+◌, ◌<◌, ◌≤◌, 
 use Rattle.std.proofs.Common.{◌++◌, length, subst, refl, arith}
 use Rattle.std.proofs.lemmas.List.{length-take, take_all}
 use Rattle.jp_command.specs.Limits.{document_limit}
-use Rattle.jp_lines.specs.Outcome.{LineOutcome, ComesTo, ComeTo, none, one_more}
-use Rattle.jp_lines.specs.Outcome.{blank, document, no_document, too_large, steps_used_up}
+use Rattle.jp_lines.specs.Outcome.{LineOutcome, Refused, ComesTo, ComeTo, none, one_more}
+use Rattle.jp_lines.specs.Outcome.{IsDefective, IsRefusal, blank, document, no_document, refused}
+use Rattle.jp_lines.specs.Outcome.{steps_used_up, too_large}
 use Rattle.jp_lines.specs.Outcome.{is_refused, some_refused}
 use Rattle.jp_lines.specs.Private.Passing.{kept_of}
+use Rattle.jp_lines.specs.declared.defect.Defect.{Defect}
+use Rattle.jp_lines.specs.declared.defect.RefusedLine.{RefusedLine}
 use Rattle.jp_lines.specs.declared.options.Options.{Options}
 use Rattle.jp_tree.specs.Tree.{QueryTree}
 
@@ -45,26 +48,34 @@ module _ (options : Options) (q : QueryTree) where
       (come-append (suc n) more ms rest ys come
       (subst (λ k. ComeTo options q k ms ys) (omega arith) after))
 
-  -- what a line comes to is seen from what is kept of it
+  -- a refusal of a line is seen from what is kept of it
+  refused-kept : (n : ℕ) (l : List ℕ) (d : Defect) (r : RefusedLine)
+      → IsDefective options (kept_of l) d → IsRefusal options n (kept_of l) d r
+      → ComesTo options q n l (Refused r)
+  refused-kept n l d r (no_document fault few some is known) of =
+      subst (λ t. ComesTo options q n t (Refused r)) (kept-all l few)
+      (refused d r (no_document fault few some is known) of)
+  refused-kept n l d r (too_large many) of =
+      refused d r (too_large (kept-many l many))
+      (record { number_is = of.number_is; defect_is = of.defect_is; behind = of.behind })
+  refused-kept n l d r (steps_used_up doc made few some is limit) of =
+      subst (λ t. ComesTo options q n t (Refused r)) (kept-all l few)
+      (refused d r (steps_used_up doc made few some is limit) of)
+
+  -- and so is what a line comes to
   pub comes-kept : (n : ℕ) (l : List ℕ) (x : LineOutcome) → ComesTo options q n (kept_of l) x
       → ComesTo options q n l x
   comes-kept n l x (blank few is) = subst (λ t. ComesTo options q n t x) (kept-all l few) (blank few is)
   comes-kept n l x (document d few some is) =
       subst (λ t. ComesTo options q n t x) (kept-all l few) (document d few some is)
-  comes-kept n l x (no_document fault few some is known) =
-      subst (λ t. ComesTo options q n t x) (kept-all l few) (no_document fault few some is known)
-  comes-kept n l x (too_large many) = too_large (kept-many l many)
-  comes-kept n l x (steps_used_up d made few some is limit) =
-      subst (λ t. ComesTo options q n t x) (kept-all l few) (steps_used_up d made few some is limit)
+  comes-kept n l x (refused d r defective of) = refused-kept n l d r defective of
 
   -- a line that is not refused is not too large
   few-one : (n : ℕ) (l : List ℕ) (x : LineOutcome) → ComesTo options q n l x → is_refused x ≡ false
       → length l ≤ document_limit
   few-one n l x (blank few is) unrefused = few
   few-one n l x (document d few some is) unrefused = few
-  few-one n l x (no_document fault few some is known) unrefused = few
-  few-one n l x (too_large many) unrefused = cc
-  few-one n l x (steps_used_up d made few some is limit) unrefused = few
+  few-one n l x (refused d r defective of) unrefused = cc
 
   -- and so the last one of lines that are not refused is not
   pub few-last : (n : ℕ) (ls : List (List ℕ)) (xs : List LineOutcome) (init : List (List ℕ))

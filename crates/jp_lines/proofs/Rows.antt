@@ -17,6 +17,7 @@ plain wanted =
       numbered = false;
       keep_going = false;
       line_buffered = false;
+      explaining = false;
       limit = None;
     }
 
@@ -42,6 +43,11 @@ going_and_extended :
     ≡ Some (record (plain Count) { keep_going = true }, codes "$", Extended)
 unfolding clap_on_literals jp_lines lines_app query_app
 going_and_extended = refl
+
+explaining : asked (codes "jp-lines" ∷ codes "eval" ∷ codes "$" ∷ codes "--explain" ∷ [])
+    ≡ Some (record (plain (Nodes Values)) { explaining = true }, codes "$", Standard)
+unfolding clap_on_literals jp_lines lines_app query_app
+explaining = refl
 
 flag_twice :
     asked (codes "jp-lines" ∷ codes "count" ∷ codes "--number" ∷ codes "--number" ∷ codes "$" ∷ [])

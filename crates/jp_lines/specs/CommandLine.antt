@@ -33,8 +33,8 @@ with_limit app = with_rule app (record (new_rule (codes "limit")) {
 
 -- a subcommand with the query, `--extended`, and the flags and the option of a run over lines
 unfoldable pub lines_app : Text → App
-lines_app name = with_limit (with_flag (with_flag (with_flag (query_app name) (codes "number"))
-    (codes "keep-going")) (codes "line-buffered"))
+lines_app name = with_limit (with_flag (with_flag (with_flag (with_flag (query_app name)
+    (codes "number")) (codes "keep-going")) (codes "line-buffered")) (codes "explain"))
 
 -- the command with one such subcommand more
 abbrev pub with_lines : App → Text → App
@@ -70,6 +70,7 @@ options_asked wanted rows = record {
   numbered = is_set (codes "number") rows;
   keep_going = is_set (codes "keep-going") rows;
   line_buffered = is_set (codes "line-buffered") rows;
+  explaining = is_set (codes "explain") rows;
   limit = limit_asked rows;
 }
 

@@ -1,6 +1,6 @@
 -- What the lines of an input come to: a document with what is written of it, nothing, or a defect.
-use Rattle.std.specs.Prelude.{◌≡◌, ◌≢◌, ℕ, suc, ◌<◌, ◌≤◌, Bool, true, false, List, [], ◌∷◌, ◌++◌}
-use Rattle.std.specs.Prelude.{Some, length, codes, if◌then◌else◌}
+use Rattle.std.specs.Prelude.{◌≡◌, ◌≢◌, ◌⊎◌, ℕ, suc, ◌<◌, ◌≤◌, Bool, true, false, List, [], ◌∷◌}
+use Rattle.std.specs.Prelude.{◌++◌, Some, length, codes, if◌then◌else◌, string_bytes}
 use Rattle.std.specs.Fmt.{decimal}
 use Rattle.std.specs.List.{flat_map, list_any}
 use Rattle.jp_document.specs.Document.{IsDocument, IsDocumentFault}
@@ -11,6 +11,9 @@ use Rattle.jp_document.specs.declared.fault.DocumentFault.TheVariants.{NoMemory}
 use Rattle.jp_command.specs.Limits.{document_limit}
 use Rattle.jp_command.specs.Lines.{output_behind}
 use Rattle.jp_evaluate.specs.Nodelist.{nodelist}
+use Rattle.jp_json.specs.Misreading.{IsMisreading}
+use Rattle.jp_json.specs.Told.{misreading_text}
+use Rattle.jp_json.specs.declared.misreading.Misreading.{Misreading}
 use Rattle.jp_tree.specs.Tree.{QueryTree}
 use Rattle.jp_lines.specs.Lines.{is_blank_line}
 use Rattle.jp_lines.specs.declared.defect.Defect.{Defect}
@@ -52,10 +55,10 @@ abbrev pub written_of : LineOutcome → List ℕ
 written_of (Answered output) = output
 written_of (Refused r) = []
 
--- what is told of it
+-- what is told of it: of a refusal, its line, and behind that what explains it
 abbrev pub told_of : LineOutcome → List ℕ
 told_of (Answered output) = []
-told_of (Refused r) = refused_text r ++ codes "\n"
+told_of (Refused r) = refused_text r ++ (codes "\n" ++ string_bytes r.explanation)
 
 abbrev pub is_refused : LineOutcome → Bool
 is_refused (Answered output) = false
@@ -71,9 +74,36 @@ told_of_all xs = flat_map told_of xs
 abbrev pub some_refused : List LineOutcome → Bool
 some_refused xs = list_any is_refused xs
 
--- the refusal of the line of that number
-abbrev pub refused_for : ℕ → Defect → RefusedLine
-refused_for number defect = record { number = number; defect = defect }
+-- the text says how the line is misread, at the input's line of that number, and a newline ends it
+pub record IsMisreadAs (number : ℕ) (line text : List ℕ) : Type 0 where
+  pub m : Misreading
+  pub misread : IsMisreading line m
+  pub is : text ≡ misreading_text (record m { line = number }) ++ codes "\n"
+
+-- what is told behind a defect of the line: of one that is no document, where that is asked for, how it
+-- is misread, unless memory ran out for it; and else nothing
+abbrev pub IsToldBehind : Options → ℕ → List ℕ → Defect → List ℕ → Type 0
+IsToldBehind options number line (Document fault) text =
+    (text ≡ []) ⊎ ((options.explaining ≡ true) × IsMisreadAs number line text)
+IsToldBehind options number line _ text = text ≡ []
+
+-- the refusal of the line of that number for the defect
+pub record IsRefusal (options : Options) (number : ℕ) (line : List ℕ) (defect : Defect)
+    (r : RefusedLine) : Type 0 where
+  pub number_is : r.number ≡ number
+  pub defect_is : r.defect ≡ defect
+  pub behind : IsToldBehind options number line defect (string_bytes r.explanation)
+
+-- the line has this defect
+pub data IsDefective (options : Options) (line : List ℕ) : Defect → Type 0 where
+  no_document : (fault : DocumentFault) → length line ≤ document_limit
+      → is_blank_line line ≡ false → IsDocumentFault line fault → fault ≢ NoMemory
+      → IsDefective options line (Document fault)
+  too_large : document_limit < length line → IsDefective options line TooLarge
+  -- only where there is a limit: as many steps as it says were made over the document
+  steps_used_up : (d : Value) (made : ℕ) → length line ≤ document_limit
+      → is_blank_line line ≡ false → IsDocument line d → options.limit ≡ Some made
+      → IsDefective options line (StepsUsedUp made)
 
 -- what is asked of each document, and the query
 module _ (options : Options) (q : QueryTree) where
@@ -85,15 +115,8 @@ module _ (options : Options) (q : QueryTree) where
         → IsDocument line d
         → ComesTo number line
         (Answered (wanted_output options.wanted (lead_of options.numbered number) q d))
-    no_document : (fault : DocumentFault) → length line ≤ document_limit
-        → is_blank_line line ≡ false → IsDocumentFault line fault → fault ≢ NoMemory
-        → ComesTo number line (Refused (refused_for number (Document fault)))
-    too_large : document_limit < length line
-        → ComesTo number line (Refused (refused_for number TooLarge))
-    -- only where there is a limit: as many steps as it says were made over the document
-    steps_used_up : (d : Value) (made : ℕ) → length line ≤ document_limit
-        → is_blank_line line ≡ false → IsDocument line d → options.limit ≡ Some made
-        → ComesTo number line (Refused (refused_for number (StepsUsedUp made)))
+    refused : (defect : Defect) (r : RefusedLine) → IsDefective options line defect
+        → IsRefusal options number line defect r → ComesTo number line (Refused r)
 
   -- the lines, numbered from there on, come to these, each to one
   pub data ComeTo : ℕ → List (List ℕ) → List LineOutcome → Type 0 where

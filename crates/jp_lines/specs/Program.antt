@@ -9,7 +9,7 @@ use Rattle.jp_command.specs.Output.{AppendsPrefix, AppendsSome}
 use Rattle.jp_command.specs.declared.fault.Fault.TheVariants.{NoMemory, Query, Write}
 use Rattle.jp_query.specs.declared.refusal.Refusal.{Refusal}
 use Rattle.jp_lines.specs.CommandLine.{asked}
-use Rattle.jp_lines.specs.Outcome.{refused_text}
+use Rattle.jp_lines.specs.Outcome.{Refused, refused_text, told_of}
 use Rattle.jp_lines.specs.Run.{FailsAtRead, RunsLines, StopsAtLine}
 use Rattle.jp_lines.specs.declared.options.Options.{Options}
 use Rattle.jp_lines.specs.declared.stop.Stop.{Stop}
@@ -20,9 +20,10 @@ abbrev pub stop_text : Stop → List ℕ
 stop_text (Line refused) = refused_text refused
 stop_text (Run fault) = fault_text fault
 
--- its line, which a newline ends
+-- its line, which a newline ends, and behind that of a line that is refused what explains it
 abbrev pub stop_line : Stop → List ℕ
-stop_line stop = stop_text stop ++ codes "\n"
+stop_line (Line refused) = told_of (Refused refused)
+stop_line (Run fault) = fault_line fault
 
 -- its status
 abbrev pub status_of_stop : Stop → ℕ

@@ -40,9 +40,12 @@ pub struct RefusedLine {
     pub number: u64,
     /// Why it is refused.
     pub defect: Defect,
+    /// What is told behind that: a line that says why and where the input's line is no document, with its
+    /// newline, or nothing.
+    pub explanation: String,
 }
 
-/// As `line 17: document refused: NotJson`.
+/// As `line 17: document refused: NotJson`, without the explanation.
 impl fmt::Display for RefusedLine {
     ghost use Rattle.std.specs.Prelude.{Some};
     ghost use Rattle.jp_lines.specs.Outcome.{refused_text};

@@ -6,8 +6,8 @@
 //! ```
 //!
 //! `Options` say what is written of each document, whether lines are numbered, a run goes on after a
-//! line that is refused, and the output is flushed after each, and how many steps the evaluation over
-//! one document may make. `specs/Run.antt` has what
+//! line that is refused, the output is flushed after each, and a line that is no document is explained,
+//! and how many steps the evaluation over one document may make. `specs/Run.antt` has what
 //! `run_lines` says with each answer, by the outcomes of lines in `specs/Outcome.antt`;
 //! `specs/Lines.antt` says what the lines of an input are. `run_program` is the whole program
 //! `jp-lines` over its words; `specs/Program.antt` has what it says with each status.
@@ -16,6 +16,7 @@
 mod answer;
 mod count;
 mod defect;
+mod explaining;
 pub mod laws;
 mod options;
 mod passing;

@@ -76,6 +76,7 @@ pub(crate) fn pass<W: Output, E: Writer>(
         return Err(Stop::Line(RefusedLine {
             number: progress.number,
             defect: Defect::TooLarge,
+            explanation: String::new(asked.alloc),
         }));
     }
     Ok(())

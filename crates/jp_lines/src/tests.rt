@@ -1,6 +1,7 @@
 //! Runs over lines of every kind, and where reads, writes and flushes fail.
 
 mod devices;
+mod explained;
 mod limits;
 mod programs;
 mod runs;

@@ -1,11 +1,10 @@
 //! What is done with one line.
 
-ghost use Rattle.std.specs.Prelude.{◌≡◌, ◌⊎◌, ◌++◌, List, ℕ, IfErr, IfOk, OnErr, OnOk, codes, true};
-ghost use Rattle.std.specs.Prelude.{false};
+ghost use Rattle.std.specs.Prelude.{◌≡◌, ◌⊎◌, List, ℕ, IfErr, IfOk, OnErr, OnOk, true, false};
 ghost use Rattle.std.specs.Io.KnownBytes.{Keeps};
 ghost use Rattle.jp_tree.specs.Views.{query_of};
 ghost use Rattle.jp_command.specs.declared.fault.Fault.TheVariants as fault;
-ghost use Rattle.jp_lines.specs.Outcome.{refused_for, refused_text};
+ghost use Rattle.jp_lines.specs.Outcome.{IsRefusal, Refused, told_of};
 ghost use Rattle.jp_lines.specs.Told.{Tells};
 ghost use Rattle.jp_lines.specs.declared.stop.Stop.TheVariants as stop;
 ghost use Rattle.jp_lines.specs.Private.Answers.{HasNamedLocation};
@@ -14,6 +13,7 @@ ghost use Rattle.jp_lines.specs.Private.Treating.{StopsEnding, Treats};
 
 use crate::answer::{Asked, Memory, answer};
 use crate::defect::{Defect, RefusedLine};
+use crate::explaining::explanation;
 use crate::stop::Stop;
 use crate::telling::tell;
 use jp_command::{Fault, Output, Writer};
@@ -44,7 +44,7 @@ pub(crate) fn treat<W: Output, E: Writer>(
             Ok(false)
         }
         Some(defect) => {
-            refuse(asked, number, defect, faults)?;
+            refuse(asked, number, kept, defect, faults)?;
             Ok(true)
         }
     }
@@ -63,21 +63,29 @@ pub(crate) fn flush<W: Output>(is_asked_for: bool, output: &mut W) -> Result<(),
     Ok(())
 }
 
-/// Tells that a line is refused, where the run goes on after it.
+/// Tells that a line, of which this is kept, is refused, where the run goes on after it.
 fn refuse<E: Writer>(
     asked: Asked<'_>,
     number: u64,
+    kept: &[u8],
     defect: Defect,
     faults: &mut E,
 ) -> Result<(), Stop>
-    ensures told { OnOk result (Tells E.contents E.has_failed faults.old faults.new
-        (refused_text (refused_for number defect) ++ codes "\n")) }
+    ensures told { OnOk result ((line : RefusedLine)
+        × IsRefusal asked.entry.options number kept.now defect line
+        × Tells E.contents E.has_failed faults.old faults.new (told_of (Refused line))) }
     ensures going { OnOk result (asked.entry.options.keep_going ≡ true) }
     ensures stopped { IfErr result (λ why. (why ≡ stop.Run fault.NoMemory)
-        ⊎ ((why ≡ stop.Line (refused_for number defect)) × (asked.entry.options.keep_going ≡ false))) }
+        ⊎ (((line : RefusedLine) × IsRefusal asked.entry.options number kept.now defect line
+        × (why ≡ stop.Line line)) × (asked.entry.options.keep_going ≡ false))) }
     ensures silent { OnErr result (faults.new ≡ faults.old) }
 {
-    let refused = RefusedLine { number, defect };
+    let explanation = explanation(asked, number, kept, &defect);
+    let refused = RefusedLine {
+        number,
+        defect,
+        explanation,
+    };
     if !asked.options.keep_going {
         return Err(Stop::Line(refused));
     }

@@ -25,6 +25,7 @@ const AFTER_HELP: &str = "\
 Each command takes one QUERY and runs it over each line of standard input, which is one JSON
 document. Lines of blanks alone hold none. A line that is no document ends the run, unless
 --keep-going is given. With --limit, so does one whose document takes more steps than N.
+A refused query is explained, and with --explain a line that is no document, too.
 
 Example: printf '{\"a\":1}\\n{\"a\":2}\\n' | jp-lines eval '$.a'
 
@@ -112,6 +113,12 @@ fn lines_command<'w>(
         "line-buffered",
         "Flushes the output after each document",
     )?;
+    let command = with_flag(
+        alloc,
+        command,
+        "explain",
+        "Tells why a line is no document, and where",
+    )?;
     with_limit(alloc, command)
 }
 
@@ -172,6 +179,7 @@ fn options_asked(wanted: Wanted, found: &ArgMatches) -> Options
         numbered: is_set(found, "number"),
         keep_going: is_set(found, "keep-going"),
         line_buffered: is_set(found, "line-buffered"),
+        explaining: is_set(found, "explain"),
         limit: limit_asked(found),
     }
 }

@@ -3,20 +3,26 @@
 use Rattle.std.specs.Prelude.{◌≡◌, ℕ, Bool, true, List, Option}
 use Rattle.clap.specs.Words.{Text}
 use Rattle.jp_check.specs.declared.profile.Profile.{Profile}
+use Rattle.jp_document.specs.declared.fault.DocumentFault.{DocumentFault}
 use Rattle.jp_query.specs.declared.refusal.Refusal.{Refusal}
-use Rattle.jp_command.specs.Line.{TellsExplained, fault_line}
+use Rattle.jp_command.specs.Line.{TellsExplained, TellsMisread, fault_line}
 use Rattle.jp_command.specs.Output.{AppendsPrefix}
 use Rattle.jp_command.specs.declared.fault.Fault.{Fault}
-use Rattle.jp_command.specs.declared.fault.Fault.TheVariants.{Query}
+use Rattle.jp_command.specs.declared.fault.Fault.TheVariants.{Query, Document}
 use Rattle.jp_command.specs.declared.words.Asked.{Asked}
 use Rattle.jp_command.specs.declared.words.Task.{Task}
 
 abbrev pub parts_of : Asked → Task × Text × Profile × Bool
 parts_of asked = (asked.task, asked.query.now, asked.profile, asked.is_explaining)
 
--- the line of a fault is told, and behind that of a refused query an explanation where it is asked for
+-- the line of a fault is told, and where that is asked for, behind that of a refused query an
+-- explanation, and behind that of a refused document how these bytes are misread
 pub data TellsFault (old new : Option (List ℕ)) (explains : Bool) (profile : Profile)
-    (query : List ℕ) (f : Fault) : Type 0 where
-  line_alone : AppendsPrefix old new (fault_line f) → TellsFault old new explains profile query f
+    (query bytes : List ℕ) (f : Fault) : Type 0 where
+  line_alone : AppendsPrefix old new (fault_line f)
+      → TellsFault old new explains profile query bytes f
   with_explanation : (r : Refusal) → f ≡ Query r → explains ≡ true
-      → TellsExplained profile query r old new → TellsFault old new explains profile query f
+      → TellsExplained profile query r old new → TellsFault old new explains profile query bytes f
+  with_misreading : (d : DocumentFault) → f ≡ Document d → explains ≡ true
+      → TellsMisread bytes (Document d) old new
+      → TellsFault old new explains profile query bytes f

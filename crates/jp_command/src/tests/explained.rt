@@ -1,5 +1,6 @@
-//! What `--explain` adds to the line of a refused query.
+//! What `--explain` adds to the line of a refused query or document.
 
+mod documents;
 mod filters;
 mod paths;
 
@@ -109,9 +110,9 @@ const LINES: &[Line] = &[
         (0, "1\n", ""),
     ),
     (
-        &["jp", "eval", "--explain", "$.a"],
+        &["jp", "check", "--explain", "$.a"],
         r#"{"a":1,}"#,
-        (3, "", "document refused: NotJson\n"),
+        (0, "accepted\n", ""),
     ),
 ];
 
@@ -129,21 +130,82 @@ fn shows_one_line_of_a_query_and_explains_nothing_else(rt: HostRuntime) -> Resul
 #[test]
 fn writes_no_more_of_an_explanation_after_a_write_that_failed(rt: HostRuntime) -> Result<(), Fail> {
     let alloc = rt.alloc();
-    let text = told(alloc, filters::FILTERS[0])?;
+    let query = told(alloc, filters::FILTERS[0])?;
+    let check = ["jp", "check", "--explain", "$[(@.a)]"];
+    assert_stops(&rt, alloc, &check, "", (1, query.as_str()))?;
+    let document = "document refused: NotJson\n\
+        line 1, column 4: No comma may come before a closing bracket.\n";
+    let eval = ["jp", "eval", "--explain", "$"];
+    assert_stops(&rt, alloc, &eval, "[1,]", (3, document))
+}
+
+/// Asserts that of what is told as much is written as comes before a write that fails, which is the
+/// last one.
+fn assert_stops(
+    rt: &impl Abort,
+    alloc: Global,
+    line: &[&str],
+    document: &str,
+    (status, text): (u8, &str),
+) -> Result<(), Fail> {
     for taken in 0..=text.len() {
         let mut drip = Drip::new(alloc, 1);
         drip.failing = taken.saturating_add(1);
         let ended = run_line(
             alloc,
-            words(alloc, &["jp", "check", "--explain", "$[(@.a)]"])?,
-            &mut Device::new(b"".as_slice()),
+            words(alloc, line)?,
+            &mut Device::new(document.as_bytes()),
             &mut Device::new(Vec::new(alloc)),
             &mut Device::new(&mut drip),
         );
-        assert_eq!(rt; ended, 1);
+        assert_eq!(rt; ended, status);
         assert!(rt; text.as_bytes().get(..taken) == Some(drip.taken.as_slice()));
         let made = taken.saturating_add(usize::from(taken < text.len()));
         assert_eq!(rt; drip.calls, made);
     }
     Ok(())
+}
+
+#[test]
+fn explains_a_refused_document_where_that_is_asked_for(rt: HostRuntime) -> Result<(), Fail> {
+    for rows in [documents::NOT_JSON, documents::NOT_WHOLE] {
+        for row in rows {
+            assert_misread(&rt, rt.alloc(), *row)?;
+        }
+    }
+    Ok(())
+}
+
+/// Asserts what each subcommand that reads a document tells of it with the flag, and that without it
+/// one line is told: of queries that name a location, and of others.
+fn assert_misread(
+    rt: &impl Abort,
+    alloc: Global,
+    (bytes, fault, misreading): documents::Misread,
+) -> Result<(), Fail> {
+    let line = format!(in alloc; "document refused: {fault}\n")?;
+    let text = format!(in alloc; "{line}{misreading}\n")?;
+    for subcommand in ["eval", "paths", "both"] {
+        for query in ["$.a", "$", "$..a"] {
+            let explaining = ["jp", subcommand, query, "--explain"];
+            assert_ended(rt, alloc, &explaining, bytes, (3, "", text.as_str()))?;
+            let plain = ["jp", subcommand, query];
+            assert_ended(rt, alloc, &plain, bytes, (3, "", line.as_str()))?;
+        }
+    }
+    Ok(())
+}
+
+#[test]
+fn tells_where_a_document_nests_too_deep(rt: HostRuntime) -> Result<(), Fail> {
+    let deep = nested(rt.alloc(), ("", "[", 128, ""), ("]", ""))?;
+    let told = "document refused: NotJson\nline 1, column 128: \
+        More than 127 arrays and objects are inside one another.\n";
+    assert_ended(
+        &rt,
+        rt.alloc(),
+        &["jp", "paths", "--explain", "$..a"],
+        deep.as_bytes(),
+        (3, "", told),
+    )
 }

@@ -14,7 +14,7 @@ use Rattle.jp_command.specs.Lines.{line_behind}
 use Rattle.jp_command.specs.Output.{AppendsPrefix, WritesAll}
 use Rattle.jp_command.specs.declared.fault.Fault.{Fault}
 use Rattle.jp_command.specs.declared.fault.Fault.TheVariants.{NoMemory, Write}
-use Rattle.jp_lines.specs.Outcome.{Answered, Refused, ComesTo, refused_for}
+use Rattle.jp_lines.specs.Outcome.{Answered, ComesTo, IsDefective}
 use Rattle.jp_lines.specs.declared.answer.Asked.{Asked}
 use Rattle.jp_lines.specs.declared.defect.Defect.{Defect}
 use Rattle.jp_lines.specs.declared.defect.Defect.TheVariants.{Document}
@@ -55,7 +55,7 @@ module _ {W : Type 0} (contents : W → Option (List ℕ)) (has_failed : W → B
   abbrev pub AnswersOrRefuses : Option Defect → Type 0
   AnswersOrRefuses None = AnswersLine
   AnswersOrRefuses (Some defect) =
-      ComesTo options q number line (Refused (refused_for number defect)) × (p ≡ o)
+      IsDefective options line defect × (p ≡ o)
 
   abbrev pub StopsAnswering : Fault → Type 0
   StopsAnswering NoMemory = ((p ≡ o) ⊎ AnswersInPart) × (has_failed p ≡ has_failed o)

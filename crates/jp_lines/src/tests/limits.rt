@@ -143,6 +143,7 @@ fn tells_how_many_steps_were_made(rt: HostRuntime) -> Result<(), AllocError> {
         numbered: false,
         keep_going: false,
         line_buffered: false,
+        explaining: false,
         limit: Some(7),
     };
     let mut output = Narrow::new(rt.alloc(), usize::MAX);
@@ -158,6 +159,7 @@ fn tells_how_many_steps_were_made(rt: HostRuntime) -> Result<(), AllocError> {
     let refused = RefusedLine {
         number: 2,
         defect: Defect::StepsUsedUp(7),
+        explanation: String::new(rt.alloc()),
     };
     assert_eq!(rt; run, Err(Stop::Line(refused)));
     assert!(rt; output.taken.as_slice() == "1\n2\n".as_bytes());

@@ -13,6 +13,7 @@ const VALUES: Options = Options {
     numbered: false,
     keep_going: false,
     line_buffered: false,
+    explaining: false,
     limit: None,
 };
 
@@ -22,6 +23,7 @@ const NUMBERED: Options = Options {
     numbered: true,
     keep_going: true,
     line_buffered: true,
+    explaining: false,
     limit: None,
 };
 
@@ -30,6 +32,7 @@ const COUNTED: Options = Options {
     numbered: false,
     keep_going: true,
     line_buffered: false,
+    explaining: false,
     limit: None,
 };
 
@@ -250,6 +253,7 @@ fn refuses_a_line_before_its_end_where_that_is_too_far(rt: HostRuntime) {
     let refused = RefusedLine {
         number: 1,
         defect: Defect::TooLarge,
+        explanation: String::new(rt.alloc()),
     };
     // The reads give 65,536 bytes each, and 256 of them as many as a document may have.
     assert_eq!(rt; (run, endless.reads), (Err(Stop::Line(refused)), 257));

@@ -107,7 +107,8 @@ returns-then-not-asked-clause-stopped g c = λ line keeps.
     rw c.loop-end.invariant.is
     (on-stops_growing c.args.asked.options g.W.Writer.contents g.W.Writer.has_failed
     g.E.Writer.contents g.E.Writer.has_failed q (c.loop-end.invariant.taken ++ rest)
-    c.args.progress.now kept line _ _ _ _ on (search rules) (search rules))
+    c.args.progress.now kept line _ _ _ _ _ on (search rules) refl refl (search rules)
+    (search rules))
 
 pub returns-clause-passes : goal.returns-clause-passes
 returns-clause-passes g c = λ line keeps.

@@ -52,7 +52,8 @@ returns-in_ok-flush-in-None-clause-treated g c = λ line is.
 pub returns-in_ok-refuse-in-Some-clause-treated : goal.returns-in_ok-refuse-in-Some-clause-treated
 returns-in_ok-refuse-in-Some-clause-treated g c = λ line is.
     let answers = rw c.in-Some.is at c.in_ok-answer.ensures.answers in
+    let told = c.in_ok-refuse-in-Some.ensures.told in
     treats-refused c.args.asked.options g.W.Writer.contents g.W.Writer.has_failed
     g.E.Writer.contents g.E.Writer.has_failed (query_of c.args.asked.query.now.query)
-    c.args.number c.args.kept.now line is c.in-Some.defect _ _ _ _ answers.0 answers.1
-    c.in_ok-refuse-in-Some.ensures.told c.in_ok-refuse-in-Some.ensures.going
+    c.args.number c.args.kept.now line is c.in-Some.defect told.0 _ _ _ _ answers.0 told.1 answers.1
+    told.2 c.in_ok-refuse-in-Some.ensures.going

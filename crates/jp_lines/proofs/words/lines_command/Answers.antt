@@ -13,5 +13,7 @@ returns-clause-shape c =
     ∙ ap (λ a. with_flag a (codes "keep-going")) numbered in
     let buffered = c.in_ok-command-4.ensures.shape
     ∙ ap (λ a. with_flag a (codes "line-buffered")) going in
-    IfOk-weaker c.with_limit.result _ _ (λ more same. same ∙ ap with_limit buffered)
+    let explained = c.in_ok-command-5.ensures.shape
+    ∙ ap (λ a. with_flag a (codes "explain")) buffered in
+    IfOk-weaker c.with_limit.result _ _ (λ more same. same ∙ ap with_limit explained)
     c.with_limit.ensures.shape

@@ -10,7 +10,7 @@ use Rattle.jp_command.specs.Run.{IsOutput}
 use Rattle.jp_command.proofs.Calls.{writes-by_calls}
 use Rattle.jp_command.proofs.FoundLines.{found-output}
 use Rattle.jp_command.proofs.Runs.{ends-document, ends-naming, ends-reading, run-ends}
-use Rattle.jp_command.proofs.eval.run_eval.Goals as goal
+use Rattle.jp_command.proofs.eval.run_eval_keeping.Goals as goal
 
 pub returns-in_err-bytes-clause-says : goal.returns-in_err-bytes-clause-says
 returns-in_err-bytes-clause-says g c =

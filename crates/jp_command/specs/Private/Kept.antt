@@ -1,0 +1,18 @@
+-- What is kept of an input after a run that ended with a fault. The private functions that run a task
+-- cite it.
+use Rattle.std.specs.Prelude.{◌≡◌, ℕ, Bool, List, Option}
+use Rattle.jp_check.specs.declared.profile.Profile.{Profile}
+use Rattle.jp_command.specs.Run.{RefusesDocument}
+use Rattle.jp_command.specs.declared.fault.Fault.{Fault}
+use Rattle.jp_command.specs.declared.fault.Fault.TheVariants.{Document}
+
+-- i and j are the input before and after
+module _ (profile : Profile) {R W : Type 0} (remaining : R → Option (List ℕ))
+    (has_failed : R → Bool) (read_gives : R → Option (List ℕ) → R → Type 0)
+    (contents : W → Option (List ℕ)) (writes_failed : W → Bool) where
+  -- of a document that is refused, the bytes that were read
+  abbrev pub KeepsRead : List ℕ → R → R → List ℕ → Fault → Type 0
+  KeepsRead text i j bytes (Document f) =
+      (refused : RefusesDocument profile remaining has_failed read_gives contents writes_failed text
+      i j f) × (bytes ≡ refused.bytes)
+  KeepsRead text i j bytes _ = Unit {0}
