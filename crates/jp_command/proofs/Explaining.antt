@@ -7,12 +7,12 @@ use Rattle.jp_explain.specs.Explanation.{explanation_text}
 use Rattle.jp_explain.specs.declared.explanation.Explanation.{Explanation}
 use Rattle.jp_query.specs.declared.refusal.Refusal.{Refusal}
 use Rattle.jp_query.specs.declared.refusal.RefusalKind.TheVariants as kind
-use Rattle.jp_command.specs.Explained.{Explains, IsExplanation, whole}
+use Rattle.jp_command.specs.Explained.{ExplainsRefusal, IsExplanation, whole}
 
 module _ (profile : Profile) (query : List ℕ) (r : Refusal) where
   -- the text of an explanation in UTF-8
   pub whole-told : {E Z : Type 0} (e : Explanation) (told : Result (String Z) E)
-      → r.kind ≢ kind.TextTooLong → Explains profile query r e
+      → r.kind ≢ kind.TextTooLong → ExplainsRefusal profile query r e
       → IfOk told (λ text. chars (string_bytes text) ≡ explanation_text e)
       → IfOk told (λ text. IsExplanation profile query r (string_bytes text))
   whole-told e (Ok text) other explains same = whole e other explains

@@ -15,15 +15,15 @@ use Rattle.jp_query.specs.declared.refusal.RefusalKind.TheVariants as kind
 -- the query's text in UTF-8, the profile in which it is read, and how it is refused
 module _ (profile : Profile) (query : List ℕ) (r : Refusal) where
   -- the explanation is of the refusal's place, and for its reason, and what it suggests is accepted
-  pub record Explains (e : Explanation) : Type 0 where
-    pub place : IsPlacedAt (chars query) r.place e
+  pub record ExplainsRefusal (e : Explanation) : Type 0 where
+    pub placed : IsPlacedAt (chars query) r.place e
     pub reason : e.reason
         ≡ reason_of r.kind (front_of r.place (chars query)) (rest_of r.place (chars query))
     pub suggestion : IfSome e.suggestion (λ text. IsQuery profile (chars (string_bytes text)))
 
   -- its text in UTF-8; of a query that is too long, the sentence alone
   pub data IsExplanation (text : List ℕ) : Type 0 where
-    whole : (e : Explanation) → r.kind ≢ kind.TextTooLong → Explains e
+    whole : (e : Explanation) → r.kind ≢ kind.TextTooLong → ExplainsRefusal e
         → text ≡ encode_utf8_all (explanation_text e) → IsExplanation text
     sentence : r.kind ≡ kind.TextTooLong → text ≡ sentence_of reason.TextTooLong ++ codes "\n"
         → IsExplanation text

@@ -6,7 +6,7 @@ returns-in_ok-explain-in_default c =
     whole-told c.args.profile c.args.query.now c.args.refusal c.in_ok-explain-in_default.field-0
     c.explanation_text.result c.in_default.not-TextTooLong
     (record {
-      place = c.in_ok-explain-in_default.ensures.place;
+      placed = c.in_ok-explain-in_default.ensures.place;
       reason = c.in_ok-explain-in_default.ensures.reason;
       suggestion = c.in_ok-explain-in_default.ensures.suggestion;
     })
