@@ -51,6 +51,9 @@ static void say(const struct jp_report *report) {
     case JP_NO_MEMORY:
         fputs("want of memory\n", stderr);
         break;
+    case JP_NO_STACK:
+        fputs("want of stack\n", stderr);
+        break;
     default:
         break;
     }

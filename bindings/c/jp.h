@@ -12,7 +12,12 @@
  *   buffer and the reports overlap nothing, and each is aligned as its type is.
  * - `malloc`, `realloc` and `free` of the program are of one allocator and align to 16 bytes.
  * - No call from a signal handler, nor from the forked child of a process that has threads.
- * - 1 MiB of stack.
+ * - JP_STACK bytes of stack on a stack that is not the thread's own, as that of a coroutine. The limit of
+ *   the main thread's stack is not lowered after its first call.
+ *
+ * A call looks first at how much the thread's own stack has left. Where that may be too little its
+ * status is JP_NO_STACK, and it has done nothing: buffers and handles are as they were. What it needs
+ * goes by how deep the query and the document are, and is never more than JP_STACK.
  *
  * Calls share nothing: they may be made at once from any threads. What was allocated for a call is
  * freed when it returns, but for what a handle keeps.
@@ -36,14 +41,18 @@ extern "C" {
 /* 65536 times the major number, 256 times the minor one, and the patch. */
 #define JP_VERSION 0x000100
 
-/* Statuses, as the program jp ends with them, but for the last, which it has not. */
+/* As many bytes of stack as any call may need. */
+#define JP_STACK 720896
+
+/* Statuses, as the program jp ends with them, but for the last two, which it has not. */
 enum {
     JP_DONE = 0,
     JP_QUERY_REFUSED = 1,
     JP_USAGE = 2, /* a number stands for nothing, or a handle keeps no such thing */
     JP_DOCUMENT_REFUSED = 3,
     JP_NO_MEMORY = 4,
-    JP_STEPS_USED_UP = 6 /* the evaluation needs more steps than the limit */
+    JP_STEPS_USED_UP = 6, /* the evaluation needs more steps than the limit */
+    JP_NO_STACK = 7       /* the thread's stack has too little left, and nothing was done */
 };
 
 /* Some queries take years over a document of a few bytes. So a call that evaluates takes a limit of
@@ -122,7 +131,8 @@ struct jp_question {
  * tell of are texts that stand one after another: a question's begins where the lengths of those before
  * it end. `out` gets all of them if there is room for all, and else is left as it was. Gives how many
  * bytes they have together. A query that the text of the queries ends before is what is there of it.
- * Each question has the whole limit. */
+ * Each question has the whole limit. Where one of them asks for more stack than is left, each report is
+ * JP_NO_STACK. */
 size_t jp_eval_many(const uint8_t *queries, size_t queries_length,
                     struct jp_question *questions, size_t questions_length,
                     const uint8_t *document, size_t document_length,
@@ -161,18 +171,21 @@ uint32_t jp_kind_name(uint32_t status, uint32_t kind,
 struct jp_handle {
     void *at;
     unsigned char full;
+    unsigned char depth[3];
 };
 
-#define JP_EMPTY \
-    { 0, 0 }
+/* clang-format off */
+#define JP_EMPTY {0, 0, {0, 0, 0}}
+/* clang-format on */
 
 /* Keeps the query in place of what the handle kept. The report and the status are those of jp_check;
- * where they are not JP_DONE the handle keeps nothing. */
+ * where they are not JP_DONE the handle keeps nothing, but after JP_NO_STACK what it kept. */
 uint32_t jp_query_new(const uint8_t *query, size_t query_length, uint32_t profile,
                       struct jp_handle *handle, struct jp_report *report);
 
 /* Keeps the document in place of what the handle kept. Nothing points to its bytes afterwards. Where it
- * is refused the handle keeps nothing, and the buffer is for the path of a number that is not whole. */
+ * is refused the handle keeps nothing, and the buffer is for the path of a number that is not whole.
+ * After JP_NO_STACK the handle keeps what it kept. */
 uint32_t jp_document_new(const uint8_t *document, size_t document_length,
                          struct jp_handle *handle,
                          uint8_t *out, size_t out_length, struct jp_report *report);
@@ -182,7 +195,8 @@ uint32_t jp_document_new(const uint8_t *document, size_t document_length,
 uint32_t jp_select(struct jp_handle *query, struct jp_handle *document, uint32_t form, uint64_t limit,
                    uint8_t *out, size_t out_length, struct jp_report *report);
 
-/* Frees what the handle keeps, if anything. It then keeps nothing, and may be filled or cleared again. */
+/* Frees what the handle keeps, if anything. It then keeps nothing, and may be filled or cleared again.
+ * Where the thread's stack has too little left for it, nothing is done, and `full` is not 0 still. */
 void jp_clear(struct jp_handle *handle);
 
 #ifdef __cplusplus

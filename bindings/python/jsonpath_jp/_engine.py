@@ -8,7 +8,8 @@ import contextlib
 import ctypes
 import functools
 import os
-from typing import Iterator, List, Optional, Sequence, Tuple, Union
+import threading
+from typing import Any, Callable, Iterator, List, Optional, Sequence, Tuple, Union
 
 VALUES, PATHS, BOTH = range(3)
 STANDARD, EXTENDED = range(2)
@@ -16,12 +17,15 @@ _SENTENCE, _SUGGESTION = 1, 2
 
 _DONE, _QUERY, _USAGE, _DOCUMENT, _NO_MEMORY = range(5)
 _STEPS_USED_UP = 6
+_NO_STACK = 7
 _NO_MEMORY_TEXT = "jp ran out of memory"
 _FIRST_ROOM = 1 << 12
 _LARGEST_KEPT_ROOM = 1 << 20
 # The steps of the first run of a query, which take less than a second; and of the first runs of many, each.
 _FIRST_RUN = 1 << 24
 _LEAST_RUN = 1 << 12
+# The stack of a thread on which each call has room; Python's own frames are there too.
+_STACK = 2 << 20
 
 
 class Error(Exception):
@@ -117,6 +121,7 @@ class _Handle(ctypes.Structure):
     _fields_ = [
         ("at", ctypes.c_void_p),
         ("full", ctypes.c_ubyte),
+        ("depth", ctypes.c_ubyte * 3),
     ]
 
 
@@ -184,6 +189,70 @@ def _give_back(room: _Room) -> None:
         _spare_rooms.append(room)
 
 
+class _NoStack(Exception):
+    """A call that needs more stack than its thread has left, and has done nothing."""
+
+
+_starting = threading.Lock()
+
+
+class _Roomy(threading.Thread):
+    """A thread with room for each call, which calls a function."""
+
+    def __init__(self, function: Callable[..., Any], arguments: Tuple[Any, ...]) -> None:
+        super().__init__(daemon=True)
+        self.function = function
+        self.arguments = arguments
+        self.given: Any = None
+        self.fault: Optional[BaseException] = None
+        self.is_left = False
+
+    def run(self) -> None:
+        try:
+            self.given = self.function(*self.arguments)
+        except BaseException as fault:
+            self.fault = fault
+
+    def answer(self) -> Any:
+        """What the function gives or raises. An interrupt does not wait for it."""
+        # The size is one for all threads that are started: another that is started now has room too.
+        with _starting:
+            before = threading.stack_size(_STACK)
+            try:
+                self.start()
+            except RuntimeError:
+                raise MemoryError("jp found no memory for a thread with more stack") from None
+            finally:
+                threading.stack_size(before)
+        try:
+            self.join()
+        except BaseException:
+            self.is_left = True
+            raise
+        if self.fault is not None:
+            raise self.fault
+        return self.given
+
+
+def _with_room(function: Callable[..., Any]) -> Callable[..., Any]:
+    """The function, called once more on a thread that has room where a call in it needs more stack."""
+
+    @functools.wraps(function)
+    def on_either(*arguments):
+        try:
+            return function(*arguments)
+        except _NoStack:
+            pass
+        return _Roomy(function, arguments).answer()
+
+    return on_either
+
+
+def _is_left() -> bool:
+    """Whether nobody waits any longer for what this thread does."""
+    return getattr(threading.current_thread(), "is_left", False)
+
+
 def _answer(call, query: str, profile: int, *arguments) -> Union[str, Exception]:
     """The text that a call writes, or the error in its place."""
     report, text = _told(call, *arguments)
@@ -200,6 +269,8 @@ def _told(call, *arguments) -> Tuple[_Report, str]:
         room = _Room(room.report.length)
         call(*arguments, *room.arguments)
     report = _Report.from_buffer_copy(room.report)
+    if report.status == _NO_STACK:
+        raise _NoStack
     text = ctypes.string_at(room.buffer, report.length).decode()
     _give_back(room)
     return report, text
@@ -236,6 +307,8 @@ def _refusal(report: _Report, query: str, profile: int, text: str) -> Optional[E
         return MemoryError(_NO_MEMORY_TEXT)
     if report.status == _STEPS_USED_UP:
         return StepsUsedUp(report.steps, query)
+    if report.status == _NO_STACK:
+        raise _NoStack
     return None
 
 
@@ -258,6 +331,7 @@ def _runs(first: int, limit: Optional[int]) -> Iterator[int]:
     yield limit
 
 
+@_with_room
 def evaluate(query: str, document: bytes, form: int, profile: int, limit: Optional[int]) -> str:
     """The lines of the nodes that the query selects in the document."""
     text = _bytes(query)
@@ -272,6 +346,7 @@ def evaluate(query: str, document: bytes, form: int, profile: int, limit: Option
     return _raised(answer)
 
 
+@_with_room
 def evaluate_many(
     queries: Sequence[str], document: bytes, form: int, profile: int, limit: Optional[int]
 ) -> List[Union[str, QueryError, StepsUsedUp]]:
@@ -298,7 +373,7 @@ def _selected(
         _accepted(_library.jp_query_new, query, profile, text, len(text), profile, kept)
         for run in runs:
             answer = _answer(_library.jp_select, query, profile, kept, document, form, run)
-            if not isinstance(answer, StepsUsedUp):
+            if not isinstance(answer, StepsUsedUp) or _is_left():
                 break
     return answer
 
@@ -311,6 +386,8 @@ def _handle() -> Iterator[_Handle]:
         yield handle
     finally:
         _library.jp_clear(handle)
+        if handle.full:
+            _Roomy(_library.jp_clear, (handle,)).answer()
 
 
 def _first_answers(
@@ -352,12 +429,14 @@ def _answers(
     return answers
 
 
+@_with_room
 def canonical(query: str, profile: int) -> str:
     """The canonical text of the query."""
     text = _bytes(query)
     return _raised(_answer(_library.jp_canon, query, profile, text, len(text), profile))
 
 
+@_with_room
 def check(query: str, profile: int) -> None:
     """Raises `QueryError` where the query is not accepted."""
     text = _bytes(query)

@@ -4,6 +4,7 @@ import doctest
 import json
 import mmap
 import pickle
+import resource
 import signal
 import subprocess
 import sys
@@ -303,6 +304,88 @@ class Threads(unittest.TestCase):
         for thread in threads:
             thread.join()
         self.assertEqual(wrong, [])
+
+    DEEP = "$" + "[?@.a||@&&!@" * 128 + "]" * 128
+    NESTED = "[" * 126 + "]" * 126
+
+    def on_little_stack(self, size, function, *arguments):
+        """What the function gives on a thread with so much stack."""
+        given = []
+        before = threading.stack_size(size)
+        try:
+            thread = threading.Thread(target=lambda: given.append(function(*arguments)))
+            thread.start()
+        finally:
+            threading.stack_size(before)
+        thread.join()
+        self.assertEqual(len(given), 1)
+        return given[0]
+
+    def test_little_stack(self):
+        for query, document in [
+            ("$.a", {"a": 1}), (self.DEEP, self.NESTED), ("$" + "[?@" * 200, "[1]"), ("$", "[" * 200),
+            ("$[?match('a',@)]", ["(" * 64 + "a" + ")" * 64]),
+        ]:
+            for function in (jp.find, jp.paths, jp.values, jp.canonical, jp.check, jp.find_many):
+                arguments = [query] if function in (jp.canonical, jp.check) else [query, document]
+                if function is jp.find_many:
+                    arguments[0] = ["$", query]
+                expected = self.given(function, *arguments)
+                for size in (64 << 10, 128 << 10, 256 << 10, 512 << 10, 1 << 20):
+                    with self.subTest(query=query[:20], function=function.__name__, size=size):
+                        self.assertEqual(self.on_little_stack(size, self.given, function, *arguments), expected)
+
+    def given(self, function, *arguments):
+        """What the function gives, or the text of its error."""
+        try:
+            return str(function(*arguments))
+        except jp.Error as fault:
+            return str(fault)
+
+    def test_little_stack_by_handles(self):
+        document = list(range(1000))
+        with mock.patch.multiple(_engine, _FIRST_RUN=3, _LEAST_RUN=1):
+            for query in ("$..*", self.DEEP):
+                expected = jp.find_many([query, "$[0]"], document)
+                given = self.on_little_stack(128 << 10, jp.find_many, [query, "$[0]"], document)
+                self.assertEqual(given, expected)
+                self.assertEqual(self.on_little_stack(128 << 10, jp.find, query, document), expected[0])
+
+    def test_a_handle_is_cleared_on_little_stack(self):
+        handle, report, text = _engine._Handle(), _engine._Report(), self.DEEP.encode()
+        _engine._library.jp_query_new(text, len(text), 0, handle, report)
+        self.on_little_stack(64 << 10, _engine._library.jp_clear, handle)
+        self.assertEqual((report.status, handle.full != 0), (0, True))
+        with mock.patch.object(_engine, "_Handle", lambda: handle):
+            def use():
+                with _engine._handle():
+                    pass
+            self.on_little_stack(64 << 10, use)
+        self.assertEqual(handle.full, 0)
+
+    def test_an_interrupt_does_not_wait(self):
+        # The main thread has as little stack as its limit says, which a child sets before it begins.
+        script = (
+            "import signal\n"
+            "signal.signal(signal.SIGINT, signal.default_int_handler)\n"
+            "import jsonpath_jp as jp\n"
+            "print('begun', flush=True)\n"
+            "jp.find('$' + '..*' * 20 + '[?(((((((((((((((@.x)))))))))))))))]', '[' * 100 + ']' * 100)\n"
+        )
+        words = [sys.executable, "-c", script]
+        limit = (256 << 10, resource.getrlimit(resource.RLIMIT_STACK)[1])
+        how = {"stdout": subprocess.PIPE, "stderr": subprocess.PIPE, "text": True}
+        with subprocess.Popen(
+            words, preexec_fn=lambda: resource.setrlimit(resource.RLIMIT_STACK, limit), **how
+        ) as asking:
+            self.assertEqual(asking.stdout.readline(), "begun\n")
+            time.sleep(0.2)
+            asking.send_signal(signal.SIGINT)
+            try:
+                _, said = asking.communicate(timeout=30)
+            finally:
+                asking.kill()
+        self.assertIn("KeyboardInterrupt", said)
 
 
 def load_tests(loader, tests, pattern):
