@@ -44,20 +44,22 @@ extern "C" {
 /* As many bytes of stack as any call may need. */
 #define JP_STACK 720896
 
-/* Statuses, as the program jp ends with them, but for the last two, which it has not. */
-enum {
-    JP_DONE = 0,
-    JP_QUERY_REFUSED = 1,
-    JP_USAGE = 2, /* a number stands for nothing, or a handle keeps no such thing */
-    JP_DOCUMENT_REFUSED = 3,
-    JP_NO_MEMORY = 4,
-    JP_STEPS_USED_UP = 6, /* the evaluation needs more steps than the limit */
-    JP_NO_STACK = 7       /* the thread's stack has too little left, and nothing was done */
-};
-
 /* Some queries take years over a document of a few bytes. So a call that evaluates takes a limit of
  * steps, which count its work; docs/QUERIES.md says what a step is. */
 #define JP_NO_LIMIT 0
+
+/* Made from bindings/numbers.json by `.ci/numbers --write`. */
+
+/* Statuses, as the program jp ends with them, but for the last two, which it has not. */
+enum {
+    JP_DONE = 0,             /* there is an answer */
+    JP_QUERY_REFUSED = 1,    /* the report has its kind and its place */
+    JP_USAGE = 2,            /* a number stands for nothing, or a handle keeps no such thing */
+    JP_DOCUMENT_REFUSED = 3, /* the report has its kind */
+    JP_NO_MEMORY = 4,        /* memory ran out */
+    JP_STEPS_USED_UP = 6,    /* the evaluation needs more steps than the limit */
+    JP_NO_STACK = 7          /* the thread's stack has too little left, and nothing was done */
+};
 
 /* What is written of each node, with a newline after it. */
 enum {
@@ -75,8 +77,8 @@ enum {
 /* The parts of an explanation. */
 enum {
     JP_EXPLANATION = 0, /* all of it, each line with a newline at its end */
-    JP_SENTENCE = 1,
-    JP_SUGGESTION = 2
+    JP_SENTENCE = 1,    /* why the query is refused */
+    JP_SUGGESTION = 2   /* a query that is accepted */
 };
 
 /* Kinds of a query's refusal, in `report->kind` where the status is JP_QUERY_REFUSED. */
@@ -99,6 +101,8 @@ enum {
     JP_LIST_TOO_LONG = 3,     /* more than (2^53)-1 items */
     JP_DOCUMENT_TOO_LARGE = 5 /* 2^32 bytes or more */
 };
+
+/* Up to here. */
 
 struct jp_report {
     uint32_t status; /* also what the call gives */

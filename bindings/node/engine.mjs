@@ -6,21 +6,7 @@
  * so that a page can take it as it is.
  */
 
-export const VALUES = 0;
-export const PATHS = 1;
-export const BOTH = 2;
-export const STANDARD = 0;
-export const EXTENDED = 1;
-
-export const DONE = 0;
-export const QUERY_REFUSED = 1;
-export const DOCUMENT_REFUSED = 3;
-export const NO_MEMORY = 4;
-export const STEPS_USED_UP = 6;
-export const NO_LIMIT = 0n;
-
-const SENTENCE = 1;
-const SUGGESTION = 2;
+import { NO_LIMIT, NO_MEMORY, SENTENCE, SUGGESTION } from "./numbers.mjs";
 
 const REPORT_LENGTH = 32;
 const FIRST_ROOM = 1 << 12;

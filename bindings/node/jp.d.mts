@@ -68,7 +68,11 @@ export class QueryError extends Error {
 /** A document that is refused. */
 export class DocumentError extends Error {
   readonly name: "DocumentError";
-  readonly kind: "NotJson" | "NotWhole" | "ListTooLong";
+  readonly kind:
+    | "NotJson"
+    | "NotWhole"
+    | "ListTooLong"
+    | "DocumentTooLarge";
   /** Of `NotWhole`, the normalized path of the first number that is not a whole one of 64 bits. */
   readonly path: string | null;
 }

@@ -8,11 +8,11 @@
  * jp.d.mts has the types, and what each call gives.
  */
 import { readFileSync } from "node:fs";
+import { Engine, bytesOf, indexAt, textOf } from "./engine.mjs";
 import {
   BOTH,
   DOCUMENT_REFUSED,
   EXTENDED,
-  Engine,
   NO_LIMIT,
   NO_MEMORY,
   PATHS,
@@ -20,10 +20,7 @@ import {
   STANDARD,
   STEPS_USED_UP,
   VALUES,
-  bytesOf,
-  indexAt,
-  textOf,
-} from "./engine.mjs";
+} from "./numbers.mjs";
 
 const engine = start();
 

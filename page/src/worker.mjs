@@ -1,17 +1,15 @@
 /** Asks the engine, away from the page, which so never waits for an answer. */
+import { Engine, bytesOf, textOf } from "../../bindings/node/engine.mjs";
 import {
   BOTH,
   DOCUMENT_REFUSED,
   EXTENDED,
-  Engine,
   NO_MEMORY,
   PATHS,
   QUERY_REFUSED,
   STANDARD,
   VALUES,
-  bytesOf,
-  textOf,
-} from "../../bindings/node/engine.mjs";
+} from "../../bindings/node/numbers.mjs";
 
 const FORMS = { values: VALUES, paths: PATHS, both: BOTH };
 const PROFILES = { standard: STANDARD, extended: EXTENDED };

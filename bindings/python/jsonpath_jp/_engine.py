@@ -11,13 +11,9 @@ import os
 import threading
 from typing import Any, Callable, Iterator, List, Optional, Sequence, Tuple, Union
 
-VALUES, PATHS, BOTH = range(3)
-STANDARD, EXTENDED = range(2)
-_SENTENCE, _SUGGESTION = 1, 2
+from . import _numbers
+from ._numbers import BOTH, EXTENDED, PATHS, STANDARD, VALUES  # noqa: F401
 
-_DONE, _QUERY, _USAGE, _DOCUMENT, _NO_MEMORY = range(5)
-_STEPS_USED_UP = 6
-_NO_STACK = 7
 _NO_MEMORY_TEXT = "jp ran out of memory"
 _FIRST_ROOM = 1 << 12
 _LARGEST_KEPT_ROOM = 1 << 20
@@ -269,7 +265,7 @@ def _told(call, *arguments) -> Tuple[_Report, str]:
         room = _Room(room.report.length)
         call(*arguments, *room.arguments)
     report = _Report.from_buffer_copy(room.report)
-    if report.status == _NO_STACK:
+    if report.status == _numbers.NO_STACK:
         raise _NoStack
     text = ctypes.string_at(room.buffer, report.length).decode()
     _give_back(room)
@@ -279,7 +275,7 @@ def _told(call, *arguments) -> Tuple[_Report, str]:
 @functools.lru_cache(maxsize=None)
 def _kind_name(status: int, kind: int) -> str:
     report, name = _told(_library.jp_kind_name, status, kind)
-    if report.status == _NO_MEMORY:
+    if report.status == _numbers.NO_MEMORY:
         raise MemoryError(_NO_MEMORY_TEXT)
     return name
 
@@ -298,16 +294,16 @@ def _raised(answer: Union[str, Exception]) -> str:
 
 
 def _refusal(report: _Report, query: str, profile: int, text: str) -> Optional[Exception]:
-    if report.status == _QUERY:
-        parts = (_part(query, profile, part) for part in (_SENTENCE, _SUGGESTION))
-        return QueryError(_kind_name(_QUERY, report.kind), report.place, query, *parts)
-    if report.status == _DOCUMENT:
-        return DocumentError(_kind_name(_DOCUMENT, report.kind), text or None)
-    if report.status == _NO_MEMORY:
+    if report.status == _numbers.QUERY_REFUSED:
+        parts = (_part(query, profile, part) for part in (_numbers.SENTENCE, _numbers.SUGGESTION))
+        return QueryError(_kind_name(_numbers.QUERY_REFUSED, report.kind), report.place, query, *parts)
+    if report.status == _numbers.DOCUMENT_REFUSED:
+        return DocumentError(_kind_name(_numbers.DOCUMENT_REFUSED, report.kind), text or None)
+    if report.status == _numbers.NO_MEMORY:
         return MemoryError(_NO_MEMORY_TEXT)
-    if report.status == _STEPS_USED_UP:
+    if report.status == _numbers.STEPS_USED_UP:
         return StepsUsedUp(report.steps, query)
-    if report.status == _NO_STACK:
+    if report.status == _numbers.NO_STACK:
         raise _NoStack
     return None
 
