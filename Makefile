@@ -1,7 +1,7 @@
 # One door to the scripts. `make help` lists what can be asked for.
 PREFIX ?= /usr/local
 
-.PHONY: all help prove test test-c test-python test-node test-page test-package test-examples test-hostile \
+.PHONY: all help prove test test-c test-python test-rust test-node test-page test-package test-examples test-hostile \
     gate fmt lint house package install bench
 
 all: ## the programs from their sources, without proofs and with run-time checks: two minutes (also: make)
@@ -19,11 +19,13 @@ prove: ## proves and builds the programs that bin/jp and bin/jp-lines run from t
 gate: ## everything: the tests without proofs, all proofs, the edits that must fail, and the tests below: hours
 	.ci/run
 
-test-c test-python test-node test-page test-package test-examples test-hostile install: prove
+test-c test-python test-rust test-node test-page test-package test-examples test-hostile install: prove
 test-c: ## the library for C, proved
 	bindings/test c
 test-python: ## the package for Python, over the proved library
 	bindings/test python
+test-rust: ## the crate for Rust, over the proved library
+	bindings/test rust
 test-node: ## the package for Node, of the proved library
 	page/test node
 test-page: ## the same and the page in Chromium

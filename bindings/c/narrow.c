@@ -325,7 +325,8 @@ static const struct row wide[] = {
     {"many strings of brackets", ONE("$.a"), NESTED("[", "\"\\\"[[(\",", "1", "", "]", 5000), 0},
 };
 
-/* On a stack that is not the thread's own no call is refused. */
+/* On a stack that is not the thread's own no call is refused. AddressSanitizer doubts such stacks. */
+#ifndef __SANITIZE_ADDRESS__
 static ucontext_t returning;
 static struct asked elsewhere;
 
@@ -348,6 +349,8 @@ static void try_elsewhere(void) {
     forget(&elsewhere);
 }
 
+#endif
+
 static void try_row(const struct row *row, size_t sizes[CALLS]) {
     for (size_t call = 0; call < CALLS; call += 1) {
         sizes[call] = least(row, call);
@@ -369,6 +372,8 @@ int main(void) {
             expect(sizes[call] <= of_short[call] + 16 * KIB || calls[call].call == explain, "as little stack", wide[at].name, calls[call].name, sizes[call]);
         }
     }
+#ifndef __SANITIZE_ADDRESS__
     try_elsewhere();
+#endif
     return failures == 0 ? 0 : 1;
 }

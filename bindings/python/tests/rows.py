@@ -2,11 +2,14 @@
 
 A row is a document, a query, a profile and what is given: ("Nodes", [(path, value), ..]),
 ("Canonical", text), ("Query", "Syntax at 5") or ("Document", "NotJson"). As a program this prints each row
-as a line of JSON, for tests in other languages.
+as a line of JSON, for tests in other languages; or with --hex, for those that have no JSON at hand, as five words:
+the document, the query, 0 or 1, the kind, and what is given, of nodes the lines of path, tab and value. Texts are
+in hexadecimal digits after an `=`.
 """
 import json
 import os
 import re
+import sys
 from typing import Any, Dict, Iterator, NamedTuple, Tuple
 
 ROOT = os.path.dirname(os.path.dirname(os.path.dirname(os.path.dirname(os.path.realpath(__file__)))))
@@ -95,6 +98,15 @@ def rows() -> Iterator[Row]:
                 yield Row(document, query, False, *standard)
 
 
+def in_hex(row: Row) -> str:
+    given = row.given
+    if row.kind == "Nodes":
+        given = "".join(f"{path}\t{value}\n" for path, value in given)
+    document, query, given = ("=" + text.encode().hex() for text in (row.document, row.query, given))
+    return f"{document} {query} {int(row.is_extended)} {row.kind} {given}"
+
+
 if __name__ == "__main__":
+    spelled = in_hex if sys.argv[1:] == ["--hex"] else json.dumps
     for row in rows():
-        print(json.dumps(row))
+        print(spelled(row))

@@ -1,0 +1,163 @@
+//! Why there is no answer.
+
+use crate::numbers::{part, status, DocumentKind, QueryKind};
+use crate::query::Profile;
+use crate::raw::{self, Report};
+use std::fmt;
+
+/// Why there is no answer.
+#[derive(Clone, Debug, PartialEq, Eq)]
+#[non_exhaustive]
+pub enum Error {
+    /// The query is refused.
+    Query(Box<QueryError>),
+    /// The document is refused.
+    Document(DocumentError),
+    /// The query needs more steps over the document than its limit, which is this.
+    StepsUsedUp(u64),
+    /// Memory ran out.
+    NoMemory,
+    /// The thread has too little stack left, and no other could be started.
+    NoStack,
+}
+
+/// A query that is refused.
+#[derive(Clone, Debug, PartialEq, Eq)]
+pub struct QueryError {
+    kind: QueryKind,
+    place: usize,
+    query: String,
+    sentence: String,
+    suggestion: Option<String>,
+    explanation: String,
+}
+
+/// A document that is refused.
+#[derive(Clone, Debug, PartialEq, Eq)]
+pub struct DocumentError {
+    kind: DocumentKind,
+    path: Option<String>,
+}
+
+impl Error {
+    /// The error of a report whose status is that of no answer.
+    pub(crate) fn of_query(report: &Report, query: &str, profile: Profile) -> Self {
+        match report.status {
+            status::QUERY_REFUSED => Error::Query(Box::new(QueryError::of(report, query, profile))),
+            _ => Error::of_document(report, String::new()),
+        }
+    }
+
+    /// The same where no query was read. The text is the path of a number that is not whole.
+    pub(crate) fn of_document(report: &Report, text: String) -> Self {
+        match report.status {
+            status::DOCUMENT_REFUSED => Error::Document(DocumentError {
+                kind: DocumentKind::of(report.kind).expect("a kind that jp.h names"),
+                path: Some(text).filter(|path| !path.is_empty()),
+            }),
+            status::NO_MEMORY => Error::NoMemory,
+            status::STEPS_USED_UP => Error::StepsUsedUp(report.steps),
+            status::NO_STACK => Error::NoStack,
+            other => unreachable!("the status {other} of no answer"),
+        }
+    }
+}
+
+impl QueryError {
+    fn of(report: &Report, query: &str, profile: Profile) -> Self {
+        let told = |part| raw::explain(query.as_bytes(), profile.number(), part);
+        QueryError {
+            kind: QueryKind::of(report.kind).expect("a kind that jp.h names"),
+            place: report.place,
+            query: query.to_owned(),
+            sentence: told(part::SENTENCE),
+            suggestion: Some(told(part::SUGGESTION)).filter(|query| !query.is_empty()),
+            explanation: told(part::EXPLANATION),
+        }
+    }
+
+    /// The kind of refusal.
+    pub fn kind(&self) -> QueryKind {
+        self.kind
+    }
+
+    /// The byte of the query at which it is refused, from 0; the query's length where it ends too soon. A
+    /// character begins there, or the query ends.
+    pub fn place(&self) -> usize {
+        self.place
+    }
+
+    /// The query.
+    pub fn query(&self) -> &str {
+        &self.query
+    }
+
+    /// Why it is refused, told to whoever typed it. The wording may change. Empty where memory ran out.
+    pub fn sentence(&self) -> &str {
+        &self.sentence
+    }
+
+    /// A query that is accepted, where it is plain what was meant.
+    pub fn suggestion(&self) -> Option<&str> {
+        self.suggestion.as_deref()
+    }
+
+    /// All of it for a terminal, in lines: the line of the query that holds the place, a caret below the place,
+    /// the sentence, and the suggestion.
+    pub fn explanation(&self) -> &str {
+        &self.explanation
+    }
+}
+
+impl DocumentError {
+    /// What is wrong with it.
+    pub fn kind(&self) -> DocumentKind {
+        self.kind
+    }
+
+    /// Of [`DocumentKind::NotWhole`] the normalized path of the first number that is not a whole one of 64
+    /// bits.
+    pub fn path(&self) -> Option<&str> {
+        self.path.as_deref()
+    }
+}
+
+impl fmt::Display for Error {
+    fn fmt(&self, f: &mut fmt::Formatter<'_>) -> fmt::Result {
+        match self {
+            Error::Query(fault) => fault.fmt(f),
+            Error::Document(fault) => fault.fmt(f),
+            Error::StepsUsedUp(limit) => {
+                write!(f, "steps used up: the query needs more than {limit}")
+            }
+            Error::NoMemory => f.write_str("jp ran out of memory"),
+            Error::NoStack => {
+                f.write_str("jp has too little stack, and no other thread can be started")
+            }
+        }
+    }
+}
+
+impl fmt::Display for QueryError {
+    fn fmt(&self, f: &mut fmt::Formatter<'_>) -> fmt::Result {
+        write!(f, "query refused: {} at {}", self.kind, self.place)?;
+        if !self.sentence.is_empty() {
+            write!(f, ": {}", self.sentence)?;
+        }
+        Ok(())
+    }
+}
+
+impl fmt::Display for DocumentError {
+    fn fmt(&self, f: &mut fmt::Formatter<'_>) -> fmt::Result {
+        write!(f, "document refused: {}", self.kind)?;
+        match &self.path {
+            Some(path) => write!(f, " at {path}"),
+            None => Ok(()),
+        }
+    }
+}
+
+impl std::error::Error for Error {}
+impl std::error::Error for QueryError {}
+impl std::error::Error for DocumentError {}

@@ -1,0 +1,113 @@
+//! The nodes that a query selects.
+
+use std::fmt;
+use std::iter::FusedIterator;
+
+/// The nodes that a query selects in a document, in the order of RFC 9535; one that is selected twice stands
+/// there twice.
+///
+/// ```
+/// use jsonpath_jp::Query;
+///
+/// let nodes = Query::parse("$[0,0]")?.find(b"[1,2]")?;
+/// assert_eq!(nodes.iter().map(|node| node.path()).collect::<Vec<_>>(), ["$[0]", "$[0]"]);
+/// # Ok::<(), jsonpath_jp::Error>(())
+/// ```
+#[derive(Clone, Default, PartialEq, Eq, Hash)]
+pub struct Nodes {
+    /// A line for each: the path, a tab, and the value. Neither has a newline, and the path has no tab.
+    lines: String,
+}
+
+/// A node: a location in the document with the value there.
+#[derive(Clone, Copy, Debug, PartialEq, Eq, Hash)]
+pub struct Node<'n> {
+    path: &'n str,
+    value: &'n str,
+}
+
+/// The nodes, one after the other.
+#[derive(Clone, Debug)]
+pub struct Iter<'n> {
+    rest: &'n str,
+}
+
+impl Nodes {
+    pub(crate) fn of_lines(lines: String) -> Self {
+        Nodes { lines }
+    }
+
+    /// The nodes, in order.
+    pub fn iter(&self) -> Iter<'_> {
+        Iter { rest: &self.lines }
+    }
+
+    /// The first node, if there is any.
+    pub fn first(&self) -> Option<Node<'_>> {
+        self.iter().next()
+    }
+
+    /// The only node, if there is exactly one.
+    pub fn only(&self) -> Option<Node<'_>> {
+        let mut nodes = self.iter();
+        nodes.next().filter(|_| nodes.next().is_none())
+    }
+
+    /// Whether no node is selected.
+    pub fn is_empty(&self) -> bool {
+        self.lines.is_empty()
+    }
+
+    /// How many nodes there are, which are counted for it.
+    pub fn len(&self) -> usize {
+        self.iter().count()
+    }
+}
+
+impl<'n> Node<'n> {
+    /// The normalized path (RFC 9535, section 2.7).
+    pub fn path(&self) -> &'n str {
+        self.path
+    }
+
+    /// The value, as a compact JSON text with the members of objects sorted by name.
+    pub fn value(&self) -> &'n str {
+        self.value
+    }
+}
+
+impl<'n> Iterator for Iter<'n> {
+    type Item = Node<'n>;
+
+    fn next(&mut self) -> Option<Node<'n>> {
+        let (line, rest) = self.rest.split_once('\n')?;
+        let (path, value) = line.split_once('\t')?;
+        self.rest = rest;
+        Some(Node { path, value })
+    }
+
+    fn size_hint(&self) -> (usize, Option<usize>) {
+        // The shortest line is `$`, a tab, a digit and a newline.
+        (
+            usize::from(!self.rest.is_empty()),
+            Some(self.rest.len() / 4),
+        )
+    }
+}
+
+impl FusedIterator for Iter<'_> {}
+
+impl<'n> IntoIterator for &'n Nodes {
+    type Item = Node<'n>;
+    type IntoIter = Iter<'n>;
+
+    fn into_iter(self) -> Iter<'n> {
+        self.iter()
+    }
+}
+
+impl fmt::Debug for Nodes {
+    fn fmt(&self, f: &mut fmt::Formatter<'_>) -> fmt::Result {
+        f.debug_list().entries(self).finish()
+    }
+}

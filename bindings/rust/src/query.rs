@@ -1,0 +1,252 @@
+//! A query that is accepted.
+
+use crate::document::Document;
+use crate::error::Error;
+use crate::nodes::Nodes;
+use crate::numbers::{form, profile, status, NO_LIMIT};
+use crate::raw::{self, Handle, Report};
+use std::fmt;
+use std::num::NonZeroU64;
+use std::str::FromStr;
+use std::sync::{Mutex, PoisonError};
+
+/// Which functions a query may call.
+#[derive(Clone, Copy, Debug, Default, PartialEq, Eq, Hash)]
+pub enum Profile {
+    /// Those of RFC 9535.
+    #[default]
+    Standard,
+    /// Also `distinct`, which gives each node of a nodelist once.
+    Extended,
+}
+
+impl Profile {
+    pub(crate) fn number(self) -> u32 {
+        match self {
+            Profile::Standard => profile::STANDARD,
+            Profile::Extended => profile::EXTENDED,
+        }
+    }
+}
+
+/// A query that is accepted. It can be kept, and asked of any number of documents.
+///
+/// ```
+/// use jsonpath_jp::Query;
+///
+/// let query: Query = "$.a[-1]".parse()?;
+/// assert_eq!(query.find(br#"{"a":[1,2]}"#)?.only().map(|node| node.value()), Some("2"));
+/// assert!(query.find(b"[]")?.is_empty());
+/// # Ok::<(), jsonpath_jp::Error>(())
+/// ```
+pub struct Query {
+    text: String,
+    profile: Profile,
+    limit: Option<NonZeroU64>,
+    handle: Mutex<Handle>,
+}
+
+impl Query {
+    /// Reads a query with the functions of RFC 9535.
+    ///
+    /// # Errors
+    ///
+    /// [`Error::Query`] where it is refused, [`Error::NoMemory`] and [`Error::NoStack`].
+    pub fn parse(text: &str) -> Result<Self, Error> {
+        Self::parse_with(text, Profile::Standard)
+    }
+
+    /// Reads a query that may also call `distinct`.
+    ///
+    /// # Errors
+    ///
+    /// Those of [`parse`](Self::parse).
+    ///
+    /// ```
+    /// use jsonpath_jp::Query;
+    ///
+    /// let query = Query::parse_extended("$[?count(distinct(@['a','a'])) == 1]")?;
+    /// assert_eq!(query.find(br#"[{"a":0}]"#)?.len(), 1);
+    /// # Ok::<(), jsonpath_jp::Error>(())
+    /// ```
+    pub fn parse_extended(text: &str) -> Result<Self, Error> {
+        Self::parse_with(text, Profile::Extended)
+    }
+
+    /// Reads a query with the functions of the profile.
+    ///
+    /// # Errors
+    ///
+    /// Those of [`parse`](Self::parse).
+    pub fn parse_with(text: &str, profile: Profile) -> Result<Self, Error> {
+        let mut handle = Handle::empty();
+        let report = handle.keep_query(text.as_bytes(), profile.number());
+        match report.status {
+            status::DONE => Ok(Query {
+                text: text.to_owned(),
+                profile,
+                limit: None,
+                handle: Mutex::new(handle),
+            }),
+            _ => Err(Error::of_query(&report, text, profile)),
+        }
+    }
+
+    /// The query with a limit: over each document it may make at most so many steps, and where it needs more
+    /// the answer is [`Error::StepsUsedUp`].
+    ///
+    /// Some queries take years over a document of a few bytes, so whoever asks queries of strangers gives one.
+    /// A step is about one value that is looked at, or one byte that is compared.
+    ///
+    /// ```
+    /// use jsonpath_jp::{Error, Query};
+    ///
+    /// let query = Query::parse("$..*..*..*..*")?.with_limit(1_000.try_into().unwrap());
+    /// assert!(matches!(query.find(&[[b'['; 100], [b']'; 100]].concat()), Err(Error::StepsUsedUp(1_000))));
+    /// # Ok::<(), Error>(())
+    /// ```
+    #[must_use]
+    pub fn with_limit(self, steps: NonZeroU64) -> Self {
+        Query {
+            limit: Some(steps),
+            ..self
+        }
+    }
+
+    /// The query as it was given.
+    pub fn text(&self) -> &str {
+        &self.text
+    }
+
+    /// The functions with which it was read.
+    pub fn profile(&self) -> Profile {
+        self.profile
+    }
+
+    /// How many steps it may make over a document, where there is a limit.
+    pub fn limit(&self) -> Option<NonZeroU64> {
+        self.limit
+    }
+
+    /// The nodes that it selects in a JSON text.
+    ///
+    /// # Errors
+    ///
+    /// [`Error::Document`] where the bytes are no document, [`Error::StepsUsedUp`] where there is a limit and
+    /// the query needs more steps, [`Error::NoMemory`] and [`Error::NoStack`].
+    pub fn find(&self, document: &[u8]) -> Result<Nodes, Error> {
+        self.lines(form::BOTH, document).map(Nodes::of_lines)
+    }
+
+    /// The nodes that it selects in a document that is kept.
+    ///
+    /// # Errors
+    ///
+    /// Those of [`find`](Self::find), but for [`Error::Document`].
+    pub fn find_in(&self, document: &Document) -> Result<Nodes, Error> {
+        self.lines_in(form::BOTH, document).map(Nodes::of_lines)
+    }
+
+    /// Whether it selects any node in a JSON text.
+    ///
+    /// # Errors
+    ///
+    /// Those of [`find`](Self::find).
+    pub fn exists(&self, document: &[u8]) -> Result<bool, Error> {
+        self.lines(form::PATHS, document)
+            .map(|lines| !lines.is_empty())
+    }
+
+    /// Whether it selects any node in a document that is kept.
+    ///
+    /// # Errors
+    ///
+    /// Those of [`find_in`](Self::find_in).
+    pub fn exists_in(&self, document: &Document) -> Result<bool, Error> {
+        self.lines_in(form::PATHS, document)
+            .map(|lines| !lines.is_empty())
+    }
+
+    /// The canonical text: equal for equal queries, however they are spelled.
+    ///
+    /// # Errors
+    ///
+    /// [`Error::NoMemory`] and [`Error::NoStack`].
+    ///
+    /// ```
+    /// use jsonpath_jp::Query;
+    ///
+    /// assert_eq!(Query::parse("$ .a [ ?(@.b==-0) ]")?.canonical()?, "$['a'][?@['b']==0]");
+    /// # Ok::<(), jsonpath_jp::Error>(())
+    /// ```
+    pub fn canonical(&self) -> Result<String, Error> {
+        let (report, text) = raw::canon(self.text.as_bytes(), self.profile.number());
+        self.answer(&report, text)
+    }
+
+    fn lines(&self, form: u32, document: &[u8]) -> Result<String, Error> {
+        let (report, text) = raw::eval(
+            self.text.as_bytes(),
+            document,
+            form,
+            self.profile.number(),
+            steps(self.limit),
+        );
+        self.answer(&report, text)
+    }
+
+    fn lines_in(&self, form: u32, document: &Document) -> Result<String, Error> {
+        // Each call locks a query before a document, so that none waits for another's.
+        let mut query = self.handle.lock().unwrap_or_else(PoisonError::into_inner);
+        let (report, text) = query.select(&mut document.lock(), form, steps(self.limit));
+        self.answer(&report, text)
+    }
+
+    /// The text of an outcome, or the error that it stands for.
+    fn answer(&self, report: &Report, text: String) -> Result<String, Error> {
+        answer(report, text, &self.text, self.profile)
+    }
+}
+
+/// The limit as C takes it.
+pub(crate) fn steps(limit: Option<NonZeroU64>) -> u64 {
+    limit.map_or(NO_LIMIT, NonZeroU64::get)
+}
+
+/// The text of an outcome, or the error that it stands for.
+pub(crate) fn answer(
+    report: &Report,
+    text: String,
+    query: &str,
+    profile: Profile,
+) -> Result<String, Error> {
+    match report.status {
+        status::DONE => Ok(text),
+        status::DOCUMENT_REFUSED => Err(Error::of_document(report, text)),
+        _ => Err(Error::of_query(report, query, profile)),
+    }
+}
+
+impl FromStr for Query {
+    type Err = Error;
+
+    fn from_str(text: &str) -> Result<Self, Error> {
+        Self::parse(text)
+    }
+}
+
+impl fmt::Display for Query {
+    fn fmt(&self, f: &mut fmt::Formatter<'_>) -> fmt::Result {
+        f.write_str(&self.text)
+    }
+}
+
+impl fmt::Debug for Query {
+    fn fmt(&self, f: &mut fmt::Formatter<'_>) -> fmt::Result {
+        f.debug_struct("Query")
+            .field("text", &self.text)
+            .field("profile", &self.profile)
+            .field("limit", &self.limit)
+            .finish_non_exhaustive()
+    }
+}

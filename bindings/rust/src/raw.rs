@@ -1,0 +1,275 @@
+//! The calls of `libjp.a`, of which `bindings/c/jp.h` says what a caller owes. All that is `unsafe` is here.
+//!
+//! Slices are never null, and are borrowed as C uses them: what is read is shared, and what is written is
+//! exclusive. So nothing more is owed than that no two calls use a handle at once, which takes `&mut Handle`.
+
+use crate::numbers::{self, status};
+use std::ffi::c_void;
+use std::io;
+use std::thread;
+
+/// The stack of a thread on which each call has room.
+const ROOM: usize = 2 * numbers::STACK;
+/// As many bytes as a text is first given.
+const FIRST_ROOM: usize = 4096;
+
+/// What a call tells.
+#[derive(Clone, Copy, Default)]
+#[repr(C)]
+pub(crate) struct Report {
+    pub(crate) status: u32,
+    pub(crate) kind: u32,
+    pub(crate) place: usize,
+    pub(crate) length: usize,
+    pub(crate) steps: u64,
+}
+
+/// One of many queries: where it stands in their text, and its report.
+#[derive(Clone, Copy, Default)]
+#[repr(C)]
+pub(crate) struct Question {
+    pub(crate) start: usize,
+    pub(crate) size: usize,
+    pub(crate) report: Report,
+}
+
+/// Keeps a query, a document or nothing.
+#[repr(C)]
+pub(crate) struct Handle {
+    at: *mut c_void,
+    full: u8,
+    depth: [u8; 3],
+}
+
+// SAFETY: what a handle keeps is memory of the C library's heap, which belongs to no thread.
+unsafe impl Send for Handle {}
+
+#[rustfmt::skip]
+extern "C" {
+    fn jp_version() -> u32;
+    fn jp_eval(
+        query: *const u8, query_length: usize, document: *const u8, document_length: usize,
+        form: u32, profile: u32, limit: u64, out: *mut u8, out_length: usize, report: *mut Report,
+    ) -> u32;
+    fn jp_eval_many(
+        queries: *const u8, queries_length: usize, questions: *mut Question, questions_length: usize,
+        document: *const u8, document_length: usize, form: u32, profile: u32, limit: u64,
+        out: *mut u8, out_length: usize,
+    ) -> usize;
+    fn jp_canon(
+        query: *const u8, query_length: usize, profile: u32,
+        out: *mut u8, out_length: usize, report: *mut Report,
+    ) -> u32;
+    fn jp_explain(
+        query: *const u8, query_length: usize, profile: u32, part: u32,
+        out: *mut u8, out_length: usize, report: *mut Report,
+    ) -> u32;
+    fn jp_query_new(
+        query: *const u8, query_length: usize, profile: u32, handle: *mut Handle, report: *mut Report,
+    ) -> u32;
+    fn jp_document_new(
+        document: *const u8, document_length: usize, handle: *mut Handle,
+        out: *mut u8, out_length: usize, report: *mut Report,
+    ) -> u32;
+    fn jp_select(
+        query: *mut Handle, document: *mut Handle, form: u32, limit: u64,
+        out: *mut u8, out_length: usize, report: *mut Report,
+    ) -> u32;
+    fn jp_clear(handle: *mut Handle);
+}
+
+/// The version: 65536 times the major number, 256 times the minor one, and the patch.
+pub(crate) fn version() -> u32 {
+    // SAFETY: the call takes nothing.
+    unsafe { jp_version() }
+}
+
+/// What `jp_eval` writes.
+pub(crate) fn eval(
+    query: &[u8],
+    document: &[u8],
+    form: u32,
+    profile: u32,
+    limit: u64,
+) -> (Report, String) {
+    written(|out, length, report| {
+        // SAFETY: each pointer is to as many bytes as the length beside it says.
+        unsafe {
+            jp_eval(
+                query.as_ptr(),
+                query.len(),
+                document.as_ptr(),
+                document.len(),
+                form,
+                profile,
+                limit,
+                out,
+                length,
+                report,
+            )
+        };
+    })
+}
+
+/// What `jp_eval_many` writes; the questions get their reports.
+pub(crate) fn eval_many(
+    queries: &[u8],
+    questions: &mut [Question],
+    document: &[u8],
+    form: u32,
+    profile: u32,
+    limit: u64,
+) -> String {
+    let (_, text) = written(|out, length, report| {
+        // SAFETY: each pointer is to as many bytes, or questions, as the length beside it says.
+        report.length = unsafe {
+            jp_eval_many(
+                queries.as_ptr(),
+                queries.len(),
+                questions.as_mut_ptr(),
+                questions.len(),
+                document.as_ptr(),
+                document.len(),
+                form,
+                profile,
+                limit,
+                out,
+                length,
+            )
+        };
+        // Where there is too little stack, that is so for all.
+        report.status = match questions.first() {
+            Some(question) if question.report.status == status::NO_STACK => status::NO_STACK,
+            _ => status::DONE,
+        };
+    });
+    text
+}
+
+/// What `jp_canon` writes.
+pub(crate) fn canon(query: &[u8], profile: u32) -> (Report, String) {
+    written(|out, length, report| {
+        // SAFETY: each pointer is to as many bytes as the length beside it says.
+        unsafe { jp_canon(query.as_ptr(), query.len(), profile, out, length, report) };
+    })
+}
+
+/// What `jp_explain` writes.
+pub(crate) fn explain(query: &[u8], profile: u32, part: u32) -> String {
+    let (_, text) = written(|out, length, report| {
+        // SAFETY: each pointer is to as many bytes as the length beside it says.
+        unsafe {
+            jp_explain(
+                query.as_ptr(),
+                query.len(),
+                profile,
+                part,
+                out,
+                length,
+                report,
+            )
+        };
+    });
+    text
+}
+
+impl Handle {
+    /// A handle that keeps nothing.
+    pub(crate) fn empty() -> Self {
+        Handle {
+            at: std::ptr::null_mut(),
+            full: 0,
+            depth: [0; 3],
+        }
+    }
+
+    /// Keeps the query, where it is accepted.
+    pub(crate) fn keep_query(&mut self, query: &[u8], profile: u32) -> Report {
+        let (report, _) = written(|_, _, report| {
+            // SAFETY: the query is as long as its length says, and the handle is ours alone.
+            unsafe { jp_query_new(query.as_ptr(), query.len(), profile, self, report) };
+        });
+        report
+    }
+
+    /// Keeps the document, where it is one; else the text is the path of a number that is not whole.
+    pub(crate) fn keep_document(&mut self, document: &[u8]) -> (Report, String) {
+        written(|out, length, report| {
+            // SAFETY: each pointer is to as many bytes as the length beside it says, and the handle is ours.
+            unsafe {
+                jp_document_new(document.as_ptr(), document.len(), self, out, length, report);
+            }
+        })
+    }
+
+    /// What `jp_select` writes for the query that this handle keeps, and the document that the other does.
+    pub(crate) fn select(
+        &mut self,
+        document: &mut Handle,
+        form: u32,
+        limit: u64,
+    ) -> (Report, String) {
+        written(|out, length, report| {
+            // SAFETY: the two handles are not the same, and ours alone; the buffer is as long as it says.
+            unsafe { jp_select(self, document, form, limit, out, length, report) };
+        })
+    }
+
+    fn clear(&mut self) {
+        // SAFETY: the handle is ours alone, and is empty or was filled by the calls above.
+        unsafe { jp_clear(self) };
+    }
+}
+
+impl Drop for Handle {
+    fn drop(&mut self) {
+        self.clear();
+        if self.full != 0 {
+            // There was too little stack. Where no thread can be had, the memory is not given back.
+            let _ = on_a_thread(|| self.clear());
+        }
+    }
+}
+
+/// The report and the text of a call that writes to a buffer. It is made again where the buffer is too small,
+/// and on a thread of its own where this one has too little stack.
+fn written(mut call: impl FnMut(*mut u8, usize, &mut Report) + Send) -> (Report, String) {
+    let mut bytes = Vec::with_capacity(FIRST_ROOM);
+    let mut report = Report::default();
+    loop {
+        let room = bytes.capacity();
+        call_with_room(&mut call, &mut bytes, &mut report);
+        if report.length <= room {
+            break;
+        }
+        bytes.reserve_exact(report.length);
+    }
+    // SAFETY: the call has written so many bytes, for which there was room.
+    unsafe { bytes.set_len(report.length) };
+    let text = String::from_utf8(bytes).expect("jp writes UTF-8");
+    (report, text)
+}
+
+fn call_with_room(
+    call: &mut (impl FnMut(*mut u8, usize, &mut Report) + Send),
+    bytes: &mut Vec<u8>,
+    report: &mut Report,
+) {
+    let mut once = || call(bytes.as_mut_ptr(), bytes.capacity(), report);
+    once();
+    if report.status == status::NO_STACK {
+        // Where no thread can be had, the report says still that there is too little stack.
+        let _ = on_a_thread(|| call(bytes.as_mut_ptr(), bytes.capacity(), report));
+    }
+}
+
+/// Makes a call on a thread that has room for each.
+fn on_a_thread(call: impl FnOnce() + Send) -> io::Result<()> {
+    thread::scope(|scope| {
+        let thread = thread::Builder::new()
+            .stack_size(ROOM)
+            .spawn_scoped(scope, call)?;
+        thread.join().expect("no call of jp panics");
+        Ok(())
+    })
+}

@@ -1,0 +1,306 @@
+//! What users of the crate see. Expected values are those of RFC 9535, or by hand.
+
+use jsonpath_jp::{
+    version, Document, DocumentKind, Error, Nodes, Profile, Queries, Query, QueryKind,
+};
+use std::num::NonZeroU64;
+use std::thread;
+
+const STORE: &str = r#"{"store":{"book":[
+    {"category":"reference","author":"Nigel Rees","title":"Sayings","price":8},
+    {"category":"fiction","author":"Evelyn Waugh","title":"Sword","price":12}],
+    "bicycle":{"color":"red","price":399}}}"#;
+
+fn find(query: &str, document: &str) -> Result<Nodes, Error> {
+    Query::parse(query)?.find(document.as_bytes())
+}
+
+fn paths(nodes: &Nodes) -> Vec<&str> {
+    nodes.iter().map(|node| node.path()).collect()
+}
+
+fn values(nodes: &Nodes) -> Vec<&str> {
+    nodes.iter().map(|node| node.value()).collect()
+}
+
+fn steps(number: u64) -> NonZeroU64 {
+    NonZeroU64::new(number).unwrap()
+}
+
+#[test]
+fn paths_and_values() {
+    let nodes = find("$.store.book[?@.price<10].title", STORE).unwrap();
+    assert_eq!(paths(&nodes), ["$['store']['book'][0]['title']"]);
+    assert_eq!(values(&nodes), ["\"Sayings\""]);
+    assert_eq!(nodes.only(), nodes.first());
+    let prices = find("$..price", STORE).unwrap();
+    assert_eq!(values(&prices), ["399", "8", "12"]);
+    assert_eq!(
+        (prices.len(), prices.only(), prices.is_empty()),
+        (3, None, false)
+    );
+    assert_eq!(prices.first().unwrap().value(), "399");
+    assert_eq!(
+        format!("{:?}", find("$[1]", "[0,1]").unwrap()),
+        "[Node { path: \"$[1]\", value: \"1\" }]"
+    );
+}
+
+#[test]
+fn order_repeats_and_nothing() {
+    assert_eq!(
+        values(&find("$[::-1]", "[1,2,3]").unwrap()),
+        ["3", "2", "1"]
+    );
+    assert_eq!(paths(&find("$[0,0]", "[1]").unwrap()), ["$[0]", "$[0]"]);
+    let nothing = find("$.nothing", STORE).unwrap();
+    assert!(nothing.is_empty() && nothing.iter().next().is_none() && nothing.first().is_none());
+}
+
+#[test]
+fn texts_with_tabs_and_newlines() {
+    let nodes = find("$.*", r#"{"a\tb\n\u0000":"c\td\n"}"#).unwrap();
+    assert_eq!(paths(&nodes), [r"$['a\tb\n\u0000']"]);
+    assert_eq!(values(&nodes), [r#""c\td\n""#]);
+}
+
+#[test]
+fn a_text_longer_than_the_first_buffer() {
+    let document = format!("[{}]", vec!["1234567"; 10_000].join(","));
+    for answer in [find("$[*]", &document), kept("$[*]", &document)] {
+        assert_eq!(answer.unwrap().len(), 10_000);
+    }
+    let long = format!("$['{}']", "a".repeat(5000));
+    assert_eq!(Query::parse(&long).unwrap().canonical().unwrap(), long);
+    let Err(Error::Document(fault)) = find("$", &format!("{{\"{}\":1.5}}", "a".repeat(5000)))
+    else {
+        panic!("it is refused");
+    };
+    assert_eq!(fault.path().map(str::len), Some(5005));
+}
+
+fn kept(query: &str, document: &str) -> Result<Nodes, Error> {
+    Query::parse(query)?.find_in(&Document::parse(document.as_bytes())?)
+}
+
+#[test]
+fn whole_numbers_are_exact() {
+    let document = "[18446744073709551615,-9223372036854775808,9007199254740993]";
+    assert_eq!(
+        values(&find("$[*]", document).unwrap()),
+        [
+            "18446744073709551615",
+            "-9223372036854775808",
+            "9007199254740993"
+        ]
+    );
+}
+
+#[test]
+fn what_a_query_tells_of_itself() {
+    let query: Query = "$ .a".parse().unwrap();
+    assert_eq!((query.text(), query.to_string().as_str()), ("$ .a", "$ .a"));
+    assert_eq!((query.profile(), query.limit()), (Profile::Standard, None));
+    assert_eq!(query.canonical().unwrap(), "$['a']");
+    let query = Query::parse_extended("$[?distinct(@.*)]")
+        .unwrap()
+        .with_limit(steps(100));
+    assert_eq!(
+        (query.profile(), query.limit()),
+        (Profile::Extended, Some(steps(100)))
+    );
+    assert_eq!(paths(&query.find(br#"[{"a":0},{}]"#).unwrap()), ["$[0]"]);
+    assert!(
+        format!("{query:?}").starts_with("Query { text: \"$[?distinct(@.*)]\", profile: Extended")
+    );
+}
+
+#[test]
+fn whether_there_is_any() {
+    let document = Document::parse(STORE.as_bytes()).unwrap();
+    for (query, expected) in [("$..price", true), ("$..cost", false)] {
+        let query = Query::parse(query).unwrap();
+        assert_eq!(query.exists(STORE.as_bytes()).unwrap(), expected);
+        assert_eq!(query.exists_in(&document).unwrap(), expected);
+    }
+}
+
+#[test]
+fn a_refused_query() {
+    let Err(Error::Query(fault)) = Query::parse("$[?@.é = 1]") else {
+        panic!("it is refused")
+    };
+    assert_eq!(
+        (fault.kind(), fault.place(), fault.query()),
+        (QueryKind::Syntax, 9, "$[?@.é = 1]")
+    );
+    assert_eq!(fault.sentence(), "Values are compared with `==` and `!=`.");
+    assert_eq!(fault.suggestion(), Some("$[?@.é == 1]"));
+    assert_eq!(
+        fault.explanation(),
+        "  $[?@.é = 1]\n          ^\nValues are compared with `==` and `!=`.\nTry: $[?@.é == 1]\n"
+    );
+    assert_eq!(
+        Error::Query(fault).to_string(),
+        "query refused: Syntax at 9: Values are compared with `==` and `!=`."
+    );
+}
+
+#[test]
+fn kinds_of_refusal() {
+    for (query, kind, place) in [
+        ("$[9007199254740992]", QueryKind::IndexRange, 2),
+        ("$[?@.a==1.5]", QueryKind::NotWhole, 8),
+        ("$[?@.a==99999999999999999999]", QueryKind::NumberRange, 8),
+        ("$[?length()==1]", QueryKind::ArgumentCount, 3),
+        ("$[?@.*==1]", QueryKind::NotSingular, 3),
+        ("$[?value(@..color)]", QueryKind::IllTyped, 3),
+        ("$[?distinct(@.*)]", QueryKind::UnknownFunction, 3),
+        ("$\0", QueryKind::Syntax, 1),
+        ("", QueryKind::Syntax, 0),
+        (&format!("$[?{}", "(".repeat(200)), QueryKind::TooDeep, 130),
+    ] {
+        let Err(Error::Query(fault)) = Query::parse(query) else {
+            panic!("{query} is refused")
+        };
+        assert_eq!((fault.kind(), fault.place()), (kind, place), "{query}");
+    }
+}
+
+#[test]
+fn refused_documents() {
+    let query = Query::parse("$").unwrap();
+    for (document, kind, path) in [
+        (&b"[1,]"[..], DocumentKind::NotJson, None),
+        (b"", DocumentKind::NotJson, None),
+        (b"\"\xff\"", DocumentKind::NotJson, None),
+        (&b"[".repeat(128), DocumentKind::NotJson, None),
+        (
+            br#"{"a":[0,2.5]}"#,
+            DocumentKind::NotWhole,
+            Some("$['a'][1]"),
+        ),
+    ] {
+        let many = Queries::new(["$"]).find(document).pop().unwrap();
+        for answer in [
+            query.find(document),
+            Document::parse(document).map(|_| Nodes::default()),
+            many,
+        ] {
+            let Err(Error::Document(fault)) = answer else {
+                panic!("{document:?} is refused")
+            };
+            assert_eq!((fault.kind(), fault.path()), (kind, path));
+        }
+    }
+    let fault = find("$", "[2.5]").unwrap_err();
+    assert_eq!(fault.to_string(), "document refused: NotWhole at $[0]");
+}
+
+/// How many steps a query needs: one for each value that is offered and for the end, a segment's selectors and
+/// two more at each value that is gone into, and each comparison.
+#[test]
+fn a_limit_that_suffices_and_one_less() {
+    let document = Document::parse(b"[1,2]").unwrap();
+    for (text, needed) in [("$[*]", 7), ("$..*", 9), ("$[?@==2]", 9)] {
+        let query = Query::parse(text).unwrap().with_limit(steps(needed));
+        assert!(query.find(b"[1,2]").is_ok() && query.find_in(&document).is_ok());
+        let query = query.with_limit(steps(needed - 1));
+        for answer in [query.find(b"[1,2]"), query.find_in(&document)] {
+            assert_eq!(answer, Err(Error::StepsUsedUp(needed - 1)));
+        }
+        assert_eq!(query.exists(b"[1,2]"), Err(Error::StepsUsedUp(needed - 1)));
+    }
+    let answers = Queries::new(["$[*]", "$..*", "$[01]", "$[*]"])
+        .with_limit(steps(8))
+        .find(b"[1,2]");
+    assert_eq!(answers[0], answers[3]);
+    assert_eq!(answers[1], Err(Error::StepsUsedUp(8)));
+    assert!(matches!(answers[2], Err(Error::Query(_))));
+    assert_eq!(
+        Error::StepsUsedUp(8).to_string(),
+        "steps used up: the query needs more than 8"
+    );
+}
+
+#[test]
+fn many_queries() {
+    let texts = ["$.a[*]", "$.a[01]", "$.é", "", "$.b", "$.a"];
+    let document = format!(r#"{{"a":[1,"{}"]}}"#, "é".repeat(5000));
+    let answers = Queries::new(texts).find(document.as_bytes());
+    assert_eq!(answers.len(), texts.len());
+    for (text, answer) in texts.iter().zip(answers) {
+        assert_eq!(answer, find(text, &document));
+    }
+    assert!(Queries::new::<&str>([]).find(b"[").is_empty());
+}
+
+#[test]
+fn threads() {
+    fn is_shared<T: Send + Sync + 'static>() {}
+    is_shared::<Query>();
+    is_shared::<Document>();
+    is_shared::<Queries>();
+    is_shared::<Nodes>();
+    is_shared::<Error>();
+
+    let query = Query::parse("$[*]").unwrap();
+    let document = Document::parse(b"[1,2,3]").unwrap();
+    thread::scope(|scope| {
+        for _ in 0..4 {
+            scope.spawn(|| {
+                for _ in 0..500 {
+                    assert_eq!(query.find_in(&document).unwrap().len(), 3);
+                    assert_eq!(query.find(b"[1,2]").unwrap().len(), 2);
+                }
+            });
+        }
+    });
+}
+
+/// What is asked on a thread with so much stack.
+fn on_little_stack<T: Send>(size: usize, ask: impl FnOnce() -> T + Send) -> T {
+    thread::scope(|scope| {
+        thread::Builder::new()
+            .stack_size(size)
+            .spawn_scoped(scope, ask)
+            .unwrap()
+            .join()
+            .unwrap()
+    })
+}
+
+#[test]
+fn little_stack() {
+    let deep = format!("${}{}", "[?@.a||@&&!@".repeat(128), "]".repeat(128));
+    let nested = format!("{}{}", "[".repeat(126), "]".repeat(126));
+    for (query, document) in [
+        ("$.a", "{\"a\":1}"),
+        (&deep, &nested),
+        (&"$[?@".repeat(200), "[1]"),
+        ("$", &nested),
+    ] {
+        let expected = (find(query, document), kept(query, document));
+        for size in [64 << 10, 128 << 10, 256 << 10, 512 << 10, 1 << 20] {
+            assert_eq!(
+                on_little_stack(size, || (find(query, document), kept(query, document))),
+                expected
+            );
+            assert_eq!(
+                on_little_stack(size, || Queries::new([query])
+                    .find(document.as_bytes())
+                    .pop()
+                    .unwrap()),
+                expected.0
+            );
+        }
+    }
+    // What a thread with room keeps is freed by one with little.
+    let query = Query::parse(&deep).unwrap();
+    on_little_stack(64 << 10, move || drop(query));
+}
+
+#[test]
+fn the_version() {
+    assert_eq!(version(), env!("CARGO_PKG_VERSION"));
+}
