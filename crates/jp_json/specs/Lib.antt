@@ -2,6 +2,7 @@ pub mod Grammar
 pub mod Language
 pub mod Laws
 pub mod Misreading
+pub mod Names
 pub mod Place
 pub mod Sentences
 pub mod Told

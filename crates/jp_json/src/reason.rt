@@ -1,6 +1,7 @@
 //! Why bytes are no document, reason by reason.
 
 ghost use Rattle.std.specs.Prelude.{◌≡◌};
+ghost use Rattle.jp_json.specs.Names.{name_of};
 ghost use Rattle.jp_json.specs.Sentences.{sentence_of};
 
 /// Why bytes are no document (RFC 8259).
@@ -127,6 +128,47 @@ impl JsonReason {
             JsonReason::ListTooLong => "A list has more than (2^53)-1 items.",
             JsonReason::Unreadable => "This is no document.",
             JsonReason::Unexpected => "No value begins so.",
+        }
+    }
+
+    /// The name of the reason, as it stands in this enum.
+    pub fn name(self) -> &'static str
+        ensures { result.now ≡ name_of self }
+    {
+        match self {
+            JsonReason::NotUtf8 => "NotUtf8",
+            JsonReason::ByteOrderMark => "ByteOrderMark",
+            JsonReason::Empty => "Empty",
+            JsonReason::EndInText => "EndInText",
+            JsonReason::EndInNumber => "EndInNumber",
+            JsonReason::EndInWord => "EndInWord",
+            JsonReason::EndInArray => "EndInArray",
+            JsonReason::EndInObject => "EndInObject",
+            JsonReason::AfterValue => "AfterValue",
+            JsonReason::TooManyLevels => "TooManyLevels",
+            JsonReason::MissingValue => "MissingValue",
+            JsonReason::MissingName => "MissingName",
+            JsonReason::MissingColon => "MissingColon",
+            JsonReason::MissingComma => "MissingComma",
+            JsonReason::StrayColon => "StrayColon",
+            JsonReason::TrailingComma => "TrailingComma",
+            JsonReason::WrongBracket => "WrongBracket",
+            JsonReason::SingleQuote => "SingleQuote",
+            JsonReason::UnquotedName => "UnquotedName",
+            JsonReason::Comment => "Comment",
+            JsonReason::WrongWord => "WrongWord",
+            JsonReason::WrongNumber => "WrongNumber",
+            JsonReason::LeadingZero => "LeadingZero",
+            JsonReason::ControlCharacter => "ControlCharacter",
+            JsonReason::WrongEscape => "WrongEscape",
+            JsonReason::LoneSurrogate => "LoneSurrogate",
+            JsonReason::BeyondFloat => "BeyondFloat",
+            JsonReason::HasFraction => "HasFraction",
+            JsonReason::NegativeZero => "NegativeZero",
+            JsonReason::OutOfRange => "OutOfRange",
+            JsonReason::ListTooLong => "ListTooLong",
+            JsonReason::Unreadable => "Unreadable",
+            JsonReason::Unexpected => "Unexpected",
         }
     }
 }

@@ -88,20 +88,23 @@ fn level_128_is_one_too_many(rt: HostRuntime) -> Result<(), Fail> {
 #[test]
 fn is_told_in_one_line(rt: HostRuntime) -> Result<(), Fail> {
     let alloc = rt.alloc();
-    for (bytes, wanted) in LINES {
+    for (bytes, wanted, name) in LINES {
         let told = find_misreading(alloc, bytes)?.ok_or("a document")?;
         assert_eq!(rt; format!(in alloc; "{told}")?.as_str(), *wanted);
+        assert_eq!(rt; told.reason.name(), *name);
     }
     Ok(())
 }
 
-const LINES: &[(&[u8], &str)] = &[
+const LINES: &[(&[u8], &str, &str)] = &[
     (
         b"[1,\n]",
         "line 2, column 1: No comma may come before a closing bracket.",
+        "TrailingComma",
     ),
     (
         b"{\"a\":[1e2]}",
         "line 1, column 7, at $['a'][0]: A number with a fraction or an exponent is no whole number.",
+        "HasFraction",
     ),
 ];
