@@ -74,11 +74,19 @@ enum {
     JP_EXTENDED = 1  /* also `distinct` */
 };
 
-/* The parts of an explanation. */
+/* The parts of why a query is refused. */
 enum {
     JP_EXPLANATION = 0, /* all of it, each line with a newline at its end */
     JP_SENTENCE = 1,    /* why the query is refused */
     JP_SUGGESTION = 2   /* a query that is accepted */
+};
+
+/* The parts of why a document is refused. */
+enum {
+    JP_DOCUMENT_LINE = 0, /* the place, the path of a number that is not whole, and the sentence; a newline
+                             at its end */
+    JP_DOCUMENT_SENTENCE = 1,
+    JP_DOCUMENT_REASON = 2 /* the reason's name, as "TrailingComma", in ASCII */
 };
 
 /* Kinds of a query's refusal, in `report->kind` where the status is JP_QUERY_REFUSED. */
@@ -107,9 +115,16 @@ enum {
 struct jp_report {
     uint32_t status; /* also what the call gives */
     uint32_t kind;   /* of the refusal, else 0 */
-    size_t place;    /* the byte of the query at which it is refused, from 0, else 0 */
+    size_t place;    /* the byte at which the query or the document is refused, from 0, else 0 */
     size_t length;   /* how many bytes the text has, else 0 */
     uint64_t steps;  /* how many steps the evaluation made, at most the limit; 0 where there was none */
+};
+
+/* Where bytes that are no document go wrong. Where they are one, or nothing is told, all three are 0. */
+struct jp_place {
+    size_t offset; /* the byte, from 0: as many as there are where they end too early */
+    size_t line;   /* the number of its line, from 1 */
+    size_t column; /* its column in that line, in characters from 1 */
 };
 
 /* The version of the library. */
@@ -117,7 +132,8 @@ uint32_t jp_version(void);
 
 /* A line for each node that the query selects in the document, in the nodelist's order; no text
  * where it selects none. The query is read first. Where it names one location, as $.a[0] does, it is
- * answered while the document is read, and makes no steps. */
+ * answered while the document is read, and makes no steps. A document that is refused is read once more,
+ * for its place; where there is no memory for that the status is JP_NO_MEMORY. */
 uint32_t jp_eval(const uint8_t *query, size_t query_length,
                  const uint8_t *document, size_t document_length,
                  uint32_t form, uint32_t profile, uint64_t limit,
@@ -130,7 +146,8 @@ struct jp_question {
     struct jp_report report; /* which the call fills as jp_eval does, whatever it was */
 };
 
-/* Many queries over one document, which is read once where it is accepted, and else for each query.
+/* Many queries over one document, which is read once for all of them, and where it is refused once more, for
+ * its place. Only where memory ran out is it read again for a query.
  * Each question is answered in turn by its own report, also where others are refused. What the reports
  * tell of are texts that stand one after another: a question's begins where the lengths of those before
  * it end. `out` gets all of them if there is room for all, and else is left as it was. Gives how many
@@ -158,6 +175,14 @@ uint32_t jp_check(const uint8_t *query, size_t query_length, uint32_t profile,
  * a suggestion that there is not. What sentences say, and what is suggested, may change. */
 uint32_t jp_explain(const uint8_t *query, size_t query_length, uint32_t profile, uint32_t part,
                     uint8_t *out, size_t out_length, struct jp_report *report);
+
+/* Why bytes are no document, and where: the place of the first wrong byte, and as text the part that is
+ * asked for. The status is JP_DONE, also where there is no text and no place, since they are a document.
+ * It is JP_DOCUMENT_REFUSED of 2^32 bytes or more, which are not read. The names of reasons stay, and new
+ * ones may come; what sentences say may change. */
+uint32_t jp_explain_document(const uint8_t *document, size_t document_length, uint32_t part,
+                             struct jp_place *place,
+                             uint8_t *out, size_t out_length, struct jp_report *report);
 
 /* The name of a kind that a report has beside its status, as "Syntax" or "NotJson", in ASCII. JP_USAGE where
  * there is no such kind. */

@@ -1,8 +1,8 @@
 /* Tests what jp.h promises of buffers, bytes, limits and handles: rooms of 0, of one too little, of the
  * length and of more; a query and a document that are no UTF-8; no text at all; as many steps as are
  * needed, and one less; handles that are empty, cleared twice, filled again, used for the other kind, and a
- * million of them, which leave no memory behind; a document that is too large; explanations and names of
- * kinds. Prints nothing where all is so. */
+ * million of them, which leave no memory behind; a document that is too large; explanations, of documents
+ * too, and names of kinds. Prints nothing where all is so. */
 #define _DEFAULT_SOURCE
 #include "jp.h"
 
@@ -45,8 +45,9 @@ static const struct row rows[] = {
     ROW("$.\xff", "[]", JP_VALUES, 1, JP_SYNTAX, 2, "", 0),
     ROW("$['\0']", "[]", JP_VALUES, 1, JP_SYNTAX, 3, "", 0),
     ROW("$", "", JP_VALUES, 3, JP_NOT_JSON, 0, "", 0),
-    ROW("$", "\"\xff\"", JP_VALUES, 3, JP_NOT_JSON, 0, "", 0),
-    ROW("$", "{\"a\":[0,2.5]}", JP_VALUES, 3, JP_NUMBER_NOT_WHOLE, 0, "$['a'][1]", 0),
+    ROW("$", "\"\xff\"", JP_VALUES, 3, JP_NOT_JSON, 1, "", 0),
+    ROW("$.a", "[1,]", JP_VALUES, 3, JP_NOT_JSON, 3, "", 0),
+    ROW("$", "{\"a\":[0,2.5]}", JP_VALUES, 3, JP_NUMBER_NOT_WHOLE, 8, "$['a'][1]", 0),
     ROW("$", "[]", 3, 2, 0, 0, "", 0),
 };
 
@@ -115,7 +116,7 @@ static void try_many_refused(void) {
                && memcmp(out, "$[0]", 5) == 0,
            "the path of a number", 16);
     expect(questions[0].report.status == JP_DOCUMENT_REFUSED
-               && questions[0].report.kind == JP_NUMBER_NOT_WHOLE,
+               && questions[0].report.kind == JP_NUMBER_NOT_WHOLE && questions[0].report.place == 1,
            "the document's report", 16);
     expect(questions[1].report.status == JP_QUERY_REFUSED, "the query's report", 16);
     expect(jp_eval_many((const uint8_t *)"", 0, questions, 0, document, 5, JP_VALUES, JP_STANDARD,
@@ -163,6 +164,11 @@ static void try_too_large(void) {
            "too large for many queries", size);
     jp_document_new(document, size, &handle, out, 0, &report);
     expect(is_document_refused(&report, JP_DOCUMENT_TOO_LARGE), "too large to be kept", size);
+    struct jp_place place = {9, 9, 9};
+    jp_explain_document(document, size, JP_DOCUMENT_LINE, &place, out, 0, &report);
+    expect(is_document_refused(&report, JP_DOCUMENT_TOO_LARGE) && place.offset == 0 && place.line == 0
+               && place.column == 0,
+           "too large to be explained", size);
     munmap(document, size);
 }
 
@@ -196,6 +202,40 @@ static void try_explanations(void) {
             expect(report.length == length && report.kind == 0 && report.place == 0 && report.steps == 0,
                    "the report", length - less);
             expect(less > 0 || memcmp(out, told[at].text, length) == 0, "the explanation", length);
+            expect((less == 0 && length > 0) || out[0] == '#', "a buffer left alone", length - less);
+        }
+    }
+}
+
+/* The parts of what is told of documents, in rooms that just suffice and one less. */
+static void try_documents_explained(void) {
+    static const struct {
+        const char *document;
+        uint32_t part, status;
+        struct jp_place place;
+        const char *text;
+    } told[] = {
+        {"[1,\n]", JP_DOCUMENT_LINE, JP_DONE, {4, 2, 1}, "line 2, column 1: No comma may come before a closing bracket.\n"},
+        {"[\"\xc3\xa9\",]", JP_DOCUMENT_SENTENCE, JP_DONE, {6, 1, 6}, "No comma may come before a closing bracket."},
+        {"{\"a\":1", JP_DOCUMENT_REASON, JP_DONE, {6, 1, 7}, "EndInObject"},
+        {"[0,-0]", JP_DOCUMENT_LINE, JP_DONE, {3, 1, 4}, "line 1, column 4, at $[1]: -0 is no whole number of 64 bits.\n"},
+        {"[\xff", JP_DOCUMENT_REASON, JP_DONE, {1, 1, 2}, "NotUtf8"},
+        {"[1]", JP_DOCUMENT_LINE, JP_DONE, {0, 0, 0}, ""},
+        {"[", 3, JP_USAGE, {0, 0, 0}, ""},
+    };
+    for (size_t at = 0; at < sizeof told / sizeof told[0]; at += 1) {
+        size_t length = strlen(told[at].text);
+        for (size_t less = 0; less <= (length > 0); less += 1) {
+            uint8_t out[128] = {'#'};
+            struct jp_report report = {9, 9, 9, 9, 9};
+            struct jp_place place = {9, 9, 9};
+            uint32_t status = jp_explain_document((const uint8_t *)told[at].document, strlen(told[at].document),
+                                                  told[at].part, &place, out, length - less, &report);
+            expect(status == told[at].status && report.status == status, "the status", length - less);
+            expect(report.length == length && report.kind == 0 && report.place == 0 && report.steps == 0,
+                   "the report", length - less);
+            expect(memcmp(&place, &told[at].place, sizeof place) == 0, "the place", length - less);
+            expect(less > 0 || memcmp(out, told[at].text, length) == 0, "the text", length);
             expect((less == 0 && length > 0) || out[0] == '#', "a buffer left alone", length - less);
         }
     }
@@ -429,6 +469,7 @@ int main(void) {
     try_too_large();
     try_queries();
     try_explanations();
+    try_documents_explained();
     try_names();
     expect(jp_version() == JP_VERSION, "the version", 0);
     return failures == 0 ? 0 : 1;

@@ -15,7 +15,7 @@ use Rattle.jp_c.specs.Handles.{IsSelected, IsSelectOutcome}
 use Rattle.jp_c.specs.declared.kept.Kept.{Kept}
 use Rattle.jp_c.specs.Limit.{IsWithin, MakesSteps, Within}
 use Rattle.jp_c.specs.declared.outcome.Outcome as outcome
-use Rattle.jp_c.specs.declared.outcome.Outcome.TheVariants.{Text, Usage, Fault}
+use Rattle.jp_c.specs.declared.outcome.Outcome.TheVariants.{Text, Usage, Fault, Misread}
 
 pub answer-selected : (f : ℕ) (query document : Option Kept) (form : Form) (q : QueryTree) (d : Value)
     (r : Result (String Global) FindFault) (o : outcome.Outcome)
@@ -32,9 +32,10 @@ answer-selected f query document form q d (Err fault) o is same answer none =
 no_memory : (f p : ℕ) (query document : List ℕ) (o : outcome.Outcome)
     → IsEvalOutcome f p query document o → o ≢ Usage
     → IsEvalOutcome f p query document (Fault NoMemory)
-no_memory f p query document (Text text) is not = (is.1, is.3, tt)
+no_memory f p query document (Text text) is not = (is.1, is.3, tt, tt)
 no_memory f p query document Usage is not = absurd (not refl)
-no_memory f p query document (Fault fault) is not = (is.0, is.1, tt)
+no_memory f p query document (Fault fault) is not = (is.0, is.1, tt, tt)
+no_memory f p query document (Misread fault place) is not = (is.0, is.1, tt, tt)
 
 -- whatever was made keeps to the limit
 makes-within : (limit steps : ℕ) (o : outcome.Outcome) → MakesSteps limit o steps
@@ -45,6 +46,7 @@ makes-within limit steps (Fault StepsUsedUp) makes = λ _. omega (arith, makes.1
 makes-within limit steps (Fault (Query r)) makes = λ _. omega (arith, makes)
 makes-within limit steps (Fault (Document f)) makes = λ _. omega (arith, makes)
 makes-within limit steps (Fault DocumentTooLarge) makes = λ _. omega (arith, makes)
+makes-within limit steps (Misread f place) makes = λ _. omega (arith, makes)
 makes-within limit steps Usage makes = λ _. omega (arith, makes)
 
 -- an outcome, or running out of memory in place of one that is told of a form and a profile

@@ -11,13 +11,14 @@ use Rattle.jp_tree.specs.Views.{query_of}
 use Rattle.jsonpath.specs.Size.{Fits}
 use Rattle.jsonpath.specs.declared.fault.FindFault.TheVariants as find
 use Rattle.jp_c.specs.Asked.{IsAcceptedInBytes, IsNoDocument}
-use Rattle.jp_c.specs.Calls.{IsCheckOutcome}
+use Rattle.jp_c.specs.Calls.{IsCheckOutcome, IsPlaceless}
+use Rattle.jp_c.specs.Misread.{IsMisreadAt}
 use Rattle.jp_c.specs.Numbers.{form_of, profile_of}
 use Rattle.jp_c.specs.declared.handle.Handle.{Handle}
 use Rattle.jp_c.specs.declared.kept.Kept.{Kept}
 use Rattle.jp_c.specs.declared.kept.Kept.TheVariants as kept
 use Rattle.jp_c.specs.declared.outcome.Outcome as outcome
-use Rattle.jp_c.specs.declared.outcome.Outcome.TheVariants.{Text, Usage, Fault}
+use Rattle.jp_c.specs.declared.outcome.Outcome.TheVariants.{Text, Usage, Fault, Misread}
 
 -- what the handle keeps, if anything
 abbrev pub kept_by : Handle → Option Kept
@@ -41,14 +42,17 @@ IsQueryMade profile query (Text text) now =
     × (string_bytes text ≡ []) × (query_kept now ≡ Some q)
 IsQueryMade profile query o now = IsCheckOutcome profile query o × (now ≡ None)
 
--- of `jp_document_new`: the bytes are a document, which is kept; or why they are none, and nothing is
--- kept
+-- of `jp_document_new`: the bytes are a document, which is kept; or why they are none, and where, and
+-- nothing is kept
 abbrev pub IsDocumentMade : List ℕ → outcome.Outcome → Option Kept → Type 0
 IsDocumentMade bytes (Text text) now =
     (d : Value) × IsDocument bytes d × Fits bytes × (string_bytes text ≡ [])
     × (document_kept now ≡ Some d)
 IsDocumentMade bytes Usage now = ⊥
-IsDocumentMade bytes (Fault fault) now = IsNoDocument bytes fault × (now ≡ None)
+IsDocumentMade bytes (Fault fault) now =
+    IsNoDocument bytes fault × (now ≡ None) × IsPlaceless fault
+IsDocumentMade bytes (Misread fault place) now =
+    IsNoDocument bytes (find.Document fault) × (now ≡ None) × IsMisreadAt bytes place
 
 -- a form has that number, and the handles keep a query and a document
 pub record IsSelected (form : ℕ) (query document : Option Kept) (f : Form) (q : QueryTree) (d : Value)
@@ -69,3 +73,4 @@ IsSelectOutcome form query document Usage =
 IsSelectOutcome form query document (Fault fault) =
     (f : Form) × (q : QueryTree) × (d : Value) × IsSelected form query document f q d
     × ((fault ≡ find.NoMemory) ⊎ (fault ≡ find.StepsUsedUp))
+IsSelectOutcome form query document (Misread fault place) = ⊥

@@ -5,6 +5,7 @@ pub mod Handles
 pub mod Held
 pub mod Limit
 pub mod Many
+pub mod Misread
 pub mod Names
 pub mod Numbers
 pub mod Outcome

@@ -2,7 +2,7 @@
 use Rattle.std.specs.Prelude.{◌≡◌, ◌≢◌, ◌≤◌, ℕ}
 use Rattle.jsonpath.specs.declared.fault.FindFault.TheVariants as find
 use Rattle.jp_c.specs.declared.outcome.Outcome as outcome
-use Rattle.jp_c.specs.declared.outcome.Outcome.TheVariants.{Text, Usage, Fault}
+use Rattle.jp_c.specs.declared.outcome.Outcome.TheVariants.{Text, Usage, Fault, Misread}
 
 -- no more steps than a limit that there is
 abbrev pub IsWithin : ℕ → ℕ → Type 0
@@ -17,6 +17,7 @@ MakesSteps limit (Fault find.StepsUsedUp) steps = (limit ≢ 0) × (steps ≡ li
 MakesSteps limit (Fault (find.Query r)) steps = steps ≡ 0
 MakesSteps limit (Fault (find.Document f)) steps = steps ≡ 0
 MakesSteps limit (Fault find.DocumentTooLarge) steps = steps ≡ 0
+MakesSteps limit (Misread f place) steps = steps ≡ 0
 MakesSteps limit Usage steps = steps ≡ 0
 
 -- an outcome of that kind, in as many steps as the limit allows

@@ -6,7 +6,7 @@ use Rattle.jp_document.specs.declared.fault.DocumentFault.TheVariants.{NotWhole}
 use Rattle.jp_query.specs.Refusal.{number_of}
 use Rattle.jsonpath.specs.declared.fault.FindFault.TheVariants as find
 use Rattle.jp_c.specs.declared.outcome.Outcome as outcome
-use Rattle.jp_c.specs.declared.outcome.Outcome.TheVariants.{Text, Usage, Fault}
+use Rattle.jp_c.specs.declared.outcome.Outcome.TheVariants.{Text, Usage, Fault, Misread}
 use Rattle.jp_c.specs.declared.outcome.Report.{Report}
 
 -- the status, by which a caller tells what happened
@@ -15,6 +15,7 @@ status_of (Text text) = 0
 status_of (Fault (find.Query r)) = 1
 status_of Usage = 2
 status_of (Fault (find.Document f)) = 3
+status_of (Misread f place) = 3
 status_of (Fault find.DocumentTooLarge) = 3
 status_of (Fault find.NoMemory) = 4
 status_of (Fault find.StepsUsedUp) = 6
@@ -24,18 +25,21 @@ status_of (Fault find.StepsUsedUp) = 6
 abbrev pub kind_of : outcome.Outcome → ℕ
 kind_of (Fault (find.Query r)) = number_of r.kind
 kind_of (Fault (find.Document f)) = document_fault_number f
+kind_of (Misread f place) = document_fault_number f
 kind_of (Fault find.DocumentTooLarge) = 5
 kind_of _ = 0
 
--- the byte of the query at which it is refused
+-- the byte of the query or of the document at which it is refused
 abbrev pub place_of : outcome.Outcome → ℕ
 place_of (Fault (find.Query r)) = r.place
+place_of (Misread f place) = place
 place_of _ = 0
 
 -- the text: what was asked for, or the path of the first number that is not whole
 abbrev pub told_text : outcome.Outcome → List ℕ
 told_text (Text text) = string_bytes text
 told_text (Fault (find.Document (NotWhole path))) = string_bytes path
+told_text (Misread (NotWhole path) place) = string_bytes path
 told_text _ = []
 
 -- the report of an outcome for which so many steps were made

@@ -63,7 +63,7 @@ fn eval_outcome(
     };
     let mut steps = steps_within(limit);
     let answer = answer(alloc, query, document, form, profile, &mut steps);
-    Answered::within(limit, steps, answer)
+    Answered::within(limit, steps, answer).placed(alloc, document, None)
 }
 
 /// Writes the canonical text of the query, read in the profile of this number (RFC 9535 sections 2.1

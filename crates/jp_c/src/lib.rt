@@ -9,8 +9,9 @@
 //!
 //! The contract of each: there is an `Outcome` of the kind that the definitions of the crates below
 //! allow (`specs/Calls.antt`), by no more steps than the call's limit (`specs/Limit.antt`), and the
-//! status, the report and the buffer are the ones of that outcome (`specs/Outcome.antt`); and what
-//! each handle keeps then (`specs/Handles.antt`).
+//! status, the report and the buffer are the ones of that outcome (`specs/Outcome.antt`); where bytes
+//! that are no document go wrong (`specs/Misread.antt`); and what each handle keeps then
+//! (`specs/Handles.antt`).
 #![tactic(auto)]
 
 mod asked;
@@ -21,9 +22,11 @@ mod held;
 mod kept;
 mod limit;
 mod many;
+mod misread;
 mod names;
 mod numbers;
 mod outcome;
+mod refused;
 mod select;
 #[cfg(test)]
 mod tests;
@@ -34,6 +37,7 @@ pub use handle::Handle;
 pub use held::Held;
 pub use kept::Kept;
 pub use many::{Question, jp_eval_many};
+pub use misread::{DocumentPart, Place, jp_explain_document};
 pub use names::jp_kind_name;
 pub use outcome::{Outcome, Report};
 pub use select::{jp_clear, jp_document_new, jp_query_new, jp_select};

@@ -12,6 +12,7 @@ use crate::asked::{answer_from, read_document};
 use crate::limit::steps_within;
 use crate::numbers::{form, profile};
 use crate::outcome::{Answered, Outcome, Report, fill};
+use crate::refused::place_of;
 use jp_flat::Flat;
 use jsonpath::FindFault;
 use std::alloc::Global;
@@ -59,6 +60,8 @@ struct Subject<'d> {
     alloc: Global,
     document: &'d [u8],
     read: Result<Flat<'d>, FindFault>,
+    /// Where the document goes wrong, if that was found.
+    place: Option<usize>,
     form: u32,
     profile: u32,
     limit: u64,
@@ -72,10 +75,16 @@ impl<'d> Subject<'d> {
         ensures limit { result.limit ≡ limit }
         ensures sound { IsSound result }
     {
+        let read = read_document(alloc, document);
+        let place = match &read {
+            Ok(_) => None,
+            Err(fault) => place_of(alloc, document, fault),
+        };
         Subject {
             alloc,
             document,
-            read: read_document(alloc, document),
+            read,
+            place,
             form,
             profile,
             limit,
@@ -105,7 +114,8 @@ impl<'d> Subject<'d> {
             profile,
             &mut steps,
         );
-        Answered::within(self.limit, steps, answer)
+        let answered = Answered::within(self.limit, steps, answer);
+        answered.placed(self.alloc, self.document, self.place)
     }
 }
 

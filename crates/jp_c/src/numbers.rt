@@ -1,12 +1,13 @@
 //! What the numbers that C gives stand for.
 ghost use Rattle.std.specs.Prelude.{◌≡◌, ◌≢◌, IfSome, None};
-ghost use Rattle.jp_c.specs.Numbers.{form_of, part_of, profile_of};
+ghost use Rattle.jp_c.specs.Numbers.{document_part_of, form_of, part_of, profile_of};
 ghost use Rattle.jp_document.specs.Faults.{document_fault_number};
 ghost use Rattle.jp_document.specs.declared.fault.DocumentFault.{DocumentFault};
 ghost use Rattle.jp_query.specs.Refusal.{number_of};
 ghost use Rattle.jp_query.specs.declared.refusal.RefusalKind.{RefusalKind};
 
 use crate::explained::Part;
+use crate::misread::DocumentPart;
 use jp_check::Profile;
 use jp_command::Form;
 use jp_document::DocumentFault;
@@ -36,7 +37,7 @@ pub(crate) fn profile(number: u32) -> Option<Profile>
     }
 }
 
-/// The part of an explanation of this number, if there is one.
+/// The part of a query's explanation of this number, if there is one.
 pub(crate) fn part(number: u32) -> Option<Part>
     ensures { result ≡ part_of number }
 {
@@ -44,6 +45,18 @@ pub(crate) fn part(number: u32) -> Option<Part>
         0 => Some(Part::Whole),
         1 => Some(Part::Sentence),
         2 => Some(Part::Suggestion),
+        _ => None,
+    }
+}
+
+/// The part of a document's explanation of this number, if there is one.
+pub(crate) fn document_part(number: u32) -> Option<DocumentPart>
+    ensures { result ≡ document_part_of number }
+{
+    match number {
+        0 => Some(DocumentPart::Line),
+        1 => Some(DocumentPart::Sentence),
+        2 => Some(DocumentPart::Reason),
         _ => None,
     }
 }

@@ -22,6 +22,8 @@ pub enum Outcome {
     Usage,
     /// The query or the document is refused, memory ran out, or the steps are used up.
     Fault(FindFault),
+    /// The bytes are no document, and go wrong at this one.
+    Misread(DocumentFault, usize),
 }
 
 /// An outcome, and how many steps were made for it.
@@ -39,7 +41,7 @@ pub struct Report {
     pub status: u32,
     /// The number of the query's kind of refusal or of the document's fault, else 0.
     pub kind: u32,
-    /// The byte of the query at which it is refused, else 0.
+    /// The byte of the query or of the document at which it is refused, else 0.
     pub place: usize,
     /// How many bytes the text has: the one that was asked for, or the normalized path of the first
     /// number that is not whole; else 0.
@@ -56,7 +58,8 @@ impl Outcome {
         match self {
             Outcome::Text(text) => text.as_str(),
             Outcome::Fault(FindFault::Document(DocumentFault::NotWhole(path))) => path.as_str(),
-            Outcome::Usage | Outcome::Fault(_) => "",
+            Outcome::Misread(DocumentFault::NotWhole(path), _) => path.as_str(),
+            Outcome::Usage | Outcome::Fault(_) | Outcome::Misread(_, _) => "",
         }
     }
 
@@ -72,6 +75,7 @@ impl Outcome {
                 (1, refusal.kind.number() as u32, refusal.place)
             }
             Outcome::Fault(FindFault::Document(fault)) => (3, fault.number() as u32, 0),
+            Outcome::Misread(fault, place) => (3, fault.number() as u32, *place),
             Outcome::Fault(FindFault::DocumentTooLarge) => (3, TOO_LARGE, 0),
             Outcome::Fault(FindFault::NoMemory) => (4, 0, 0),
             Outcome::Fault(FindFault::StepsUsedUp) => (6, 0, 0),

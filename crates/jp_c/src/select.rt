@@ -16,6 +16,7 @@ use crate::kept::Kept;
 use crate::limit::steps_within;
 use crate::numbers::{form, profile};
 use crate::outcome::{Answered, Outcome, Report, tell};
+use crate::refused::refused;
 use jp_check::Profile;
 use jsonpath::FindFault;
 use std::alloc::Global;
@@ -85,7 +86,7 @@ fn document_made(alloc: Global, document: &[u8]) -> (Outcome, Handle)
 {
     match kept_document(alloc, document) {
         Ok(made) => (Outcome::Text(String::new(alloc)), made),
-        Err(fault) => (Outcome::Fault(fault), Handle::empty(alloc)),
+        Err(fault) => (refused(alloc, fault, document, None), Handle::empty(alloc)),
     }
 }
 

@@ -1,7 +1,8 @@
 //! The calls as C makes them, with values by hand.
 use crate::{
-    Handle, Question, Report, jp_canon, jp_check, jp_clear, jp_document_new, jp_eval, jp_eval_many,
-    jp_explain, jp_kind_name, jp_query_new, jp_select, jp_version,
+    Handle, Place, Question, Report, jp_canon, jp_check, jp_clear, jp_document_new, jp_eval,
+    jp_eval_many, jp_explain, jp_explain_document, jp_kind_name, jp_query_new, jp_select,
+    jp_version,
 };
 use std::alloc::Global;
 use std::test::Fail;
@@ -66,9 +67,9 @@ fn reports_why_there_is_no_text(rt: HostRuntime) -> Result<(), Fail> {
         (b"$.a[01]", b"[1,]", 0, 0, (1, 1, 5), b""),
         (b"$.\xff", b"[]", 0, 0, (1, 1, 2), b""),
         (b"$[?distinct(@)]", b"[]", 0, 0, (1, 6, 3), b""),
-        (b"$", b"[1,]", 0, 0, (3, 1, 0), b""),
-        (b"$", b"\"\xff\"", 0, 0, (3, 1, 0), b""),
-        (b"$", br#"{"a":[0,2.5]}"#, 0, 0, (3, 2, 0), b"$['a'][1]"),
+        (b"$", b"[1,]", 0, 0, (3, 1, 3), b""),
+        (b"$[1]", b"\"\xff\"", 0, 0, (3, 1, 1), b""),
+        (b"$", br#"{"a":[0,2.5]}"#, 0, 0, (3, 2, 8), b"$['a'][1]"),
         (b"$", b"[]", 3, 0, (2, 0, 0), b""),
         (b"$", b"[]", 0, 2, (2, 0, 0), b""),
     ];
@@ -129,6 +130,75 @@ fn explains_what_is_refused(rt: HostRuntime) {
         let mut report = done(9, 9);
         let status = jp_explain(rt.alloc(), query, profile, part, &mut out, &mut report);
         assert_eq!(rt; (status, report.length), (expected, text.len()));
+        assert_eq!(rt; out.get(..report.length).unwrap_or(&[]), text);
+    }
+}
+
+/// A document, a part, and what is told: the status, the place, and the text.
+type DocumentRow = (
+    &'static [u8],
+    u32,
+    u32,
+    (usize, usize, usize),
+    &'static [u8],
+);
+
+#[test]
+fn explains_what_is_no_document(rt: HostRuntime) {
+    let rows: [DocumentRow; 9] = [
+        (
+            b"[1,\n]",
+            0,
+            0,
+            (4, 2, 1),
+            b"line 2, column 1: No comma may come before a closing bracket.\n",
+        ),
+        (
+            "[\"\u{e9}\",]".as_bytes(),
+            1,
+            0,
+            (6, 1, 6),
+            b"No comma may come before a closing bracket.",
+        ),
+        (b"[1,\n]", 2, 0, (4, 2, 1), b"TrailingComma"),
+        (
+            b"{\"a\":[0,2.5]}",
+            0,
+            0,
+            (8, 1, 9),
+            b"line 1, column 9, at $['a'][1]: A number with a fraction or an exponent is no whole number.\n",
+        ),
+        (b"[-0]", 2, 0, (1, 1, 2), b"NegativeZero"),
+        (b"[\xff", 2, 0, (1, 1, 2), b"NotUtf8"),
+        (b"", 2, 0, (0, 1, 1), b"Empty"),
+        (b"[1]", 0, 0, (0, 0, 0), b""),
+        (b"[1,]", 3, 2, (0, 0, 0), b""),
+    ];
+    for (document, part, expected, (offset, line, column), text) in rows {
+        let mut out = [b'#'; 96];
+        let mut report = done(9, 9);
+        let mut place = Place {
+            offset: 9,
+            line: 9,
+            column: 9,
+        };
+        let status = jp_explain_document(
+            rt.alloc(),
+            document,
+            part,
+            &mut place,
+            &mut out,
+            &mut report,
+        );
+        assert_eq!(rt; (status, report.length), (expected, text.len()));
+        assert_eq!(rt;
+            place,
+            Place {
+                offset,
+                line,
+                column
+            }
+        );
         assert_eq!(rt; out.get(..report.length).unwrap_or(&[]), text);
     }
 }
@@ -284,7 +354,10 @@ fn answers_many_over_no_document(rt: HostRuntime) {
     assert_eq!(rt; size, 4);
     assert_eq!(rt; out.as_slice(), b"$[0]#".as_slice());
     let (first, second) = (questions[0].report, questions[1].report);
-    assert_eq!(rt; (first.status, first.kind, first.length), (3, 2, 4));
+    assert_eq!(rt;
+        (first.status, first.kind, first.place, first.length),
+        (3, 2, 1, 4)
+    );
     assert_eq!(rt; second, no_query(0));
 }
 
@@ -349,7 +422,10 @@ fn keeps_nothing_of_what_is_refused(rt: HostRuntime) -> Result<(), Fail> {
     assert_eq!(rt; report, no_query(5));
     let mut out = [b'#'; 5];
     let status = jp_document_new(alloc, b"[2.5]", &mut document, &mut out, &mut report);
-    assert_eq!(rt; (status, report.kind, report.length), (3, 2, 4));
+    assert_eq!(rt;
+        (status, report.kind, report.place, report.length),
+        (3, 2, 1, 4)
+    );
     assert_eq!(rt; out.as_slice(), b"$[0]#".as_slice());
     assert_eq!(rt; query.into_box().is_none(), true);
     assert_eq!(rt; document.into_box().is_none(), true);

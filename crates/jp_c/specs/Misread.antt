@@ -1,0 +1,44 @@
+-- Where bytes that are no document go wrong, and what is told of them.
+use Rattle.std.specs.Prelude.{◌≡◌, ℕ, List, [], ◌∷◌, ◌++◌}
+use Rattle.jp_document.specs.Document.{IsDocument}
+use Rattle.jp_document.specs.Value.{Value}
+use Rattle.jp_json.specs.Misreading.{IsMisreading}
+use Rattle.jp_json.specs.Names.{name_of}
+use Rattle.jp_json.specs.Sentences.{sentence_of}
+use Rattle.jp_json.specs.Told.{misreading_text}
+use Rattle.jp_json.specs.declared.misreading.Misreading.{Misreading}
+use Rattle.jp_reading.specs.Characters.{line_feed}
+use Rattle.jp_c.specs.declared.misread.DocumentPart.{DocumentPart}
+use Rattle.jp_c.specs.declared.misread.DocumentPart.TheVariants.{Line, Sentence, Reason}
+use Rattle.jp_c.specs.declared.misread.Place.{Place}
+
+-- the bytes are no document, by a reason that is told at this byte
+abbrev pub IsMisreadAt : List ℕ → ℕ → Type 0
+IsMisreadAt bytes place = (m : Misreading) × IsMisreading bytes m × (place ≡ m.offset)
+
+-- no place
+abbrev pub nowhere : Place
+nowhere = record { offset = 0; line = 0; column = 0 }
+
+-- the place of a misreading
+abbrev pub place_of_misreading : Misreading → Place
+place_of_misreading m = record { offset = m.offset; line = m.line; column = m.column }
+
+-- the text of that part: the line with its end, the sentence, or the reason's name
+abbrev pub part_text : DocumentPart → Misreading → List ℕ
+part_text Line m = misreading_text m ++ line_feed ∷ []
+part_text Sentence m = sentence_of m.reason
+part_text Reason m = name_of m.reason
+
+-- the bytes are misread so, and what is told is that part of the misreading, and its place
+pub record TellsMisreading (part : DocumentPart) (bytes told : List ℕ) (place : Place) : Type 0 where
+  pub m : Misreading
+  pub is : IsMisreading bytes m
+  pub text : told ≡ part_text part m
+  pub at : place ≡ place_of_misreading m
+
+-- why the bytes are no document is told, and where; or they are one, and nothing is told
+pub data ExplainsDocument (part : DocumentPart) (bytes told : List ℕ) (place : Place) : Type 0 where
+  misread : TellsMisreading part bytes told place → ExplainsDocument part bytes told place
+  document : (v : Value) → IsDocument bytes v → told ≡ [] → place ≡ nowhere
+      → ExplainsDocument part bytes told place
