@@ -19,4 +19,8 @@ export const EXPLANATION = 0;
 export const SENTENCE = 1;
 export const SUGGESTION = 2;
 
+export const DOCUMENT_LINE = 0;
+export const DOCUMENT_SENTENCE = 1;
+export const DOCUMENT_REASON = 2;
+
 export const NO_LIMIT = 0n;

@@ -68,16 +68,34 @@ class DocumentError(Error, ValueError):
 
     kind: what is wrong with it: "NotJson", "NotWhole", "ListTooLong" or "DocumentTooLarge". path: of
     "NotWhole", the normalized path of the first number that is not a whole one of 64 bits, else None.
+    offset: the byte of the document, in UTF-8, where it goes wrong, from 0. line and column: the same, in
+    characters, both from 1. reason: the name of the reason, as "TrailingComma". sentence: the reason in
+    words. These five are None of "DocumentTooLarge", of which nothing was read.
     """
 
-    def __init__(self, kind: str, path: Optional[str] = None) -> None:
-        super().__init__(kind, path)
+    def __init__(
+        self,
+        kind: str,
+        path: Optional[str] = None,
+        offset: Optional[int] = None,
+        line: Optional[int] = None,
+        column: Optional[int] = None,
+        reason: Optional[str] = None,
+        sentence: Optional[str] = None,
+    ) -> None:
+        super().__init__(kind, path, offset, line, column, reason, sentence)
         self.kind = kind
         self.path = path
+        self.offset = offset
+        self.line = line
+        self.column = column
+        self.reason = reason
+        self.sentence = sentence
 
     def __str__(self) -> str:
         at = "" if self.path is None else f" at {self.path}"
-        return f"document refused: {self.kind}{at}"
+        place = "" if self.sentence is None else f"\nline {self.line}, column {self.column}: {self.sentence}"
+        return f"document refused: {self.kind}{at}{place}"
 
 
 class StepsUsedUp(Error):
@@ -110,6 +128,14 @@ class _Question(ctypes.Structure):
         ("start", ctypes.c_size_t),
         ("size", ctypes.c_size_t),
         ("report", _Report),
+    ]
+
+
+class _Place(ctypes.Structure):
+    _fields_ = [
+        ("offset", ctypes.c_size_t),
+        ("line", ctypes.c_size_t),
+        ("column", ctypes.c_size_t),
     ]
 
 
@@ -148,14 +174,15 @@ def _load() -> ctypes.CDLL:
     library.jp_canon.argtypes = text + number + room
     library.jp_check.argtypes = text + number + [ctypes.POINTER(_Report)]
     library.jp_explain.argtypes = text + number + number + room
+    library.jp_explain_document.argtypes = text + number + [ctypes.POINTER(_Place)] + room
     library.jp_kind_name.argtypes = number + number + room
     library.jp_query_new.argtypes = text + number + handle + [ctypes.POINTER(_Report)]
     library.jp_document_new.argtypes = text + handle + room
     library.jp_select.argtypes = handle + handle + number + limit + room
     library.jp_clear.argtypes = handle
     library.jp_clear.restype = None
-    numbers = ("version", "eval", "canon", "check", "explain", "kind_name", "query_new", "document_new", "select")
-    for name in numbers:
+    numbers = ("version", "eval", "canon", "check", "explain", "explain_document", "kind_name", "query_new")
+    for name in (*numbers, "document_new", "select"):
         getattr(library, f"jp_{name}").restype = ctypes.c_uint32
     return library
 
@@ -249,10 +276,13 @@ def _is_left() -> bool:
     return getattr(threading.current_thread(), "is_left", False)
 
 
-def _answer(call, query: str, profile: int, *arguments) -> Union[str, Exception]:
-    """The text that a call writes, or the error in its place."""
+def _answer(
+    call, query: str, profile: int, *arguments, document: Optional[bytes] = None
+) -> Union[str, Exception]:
+    """The text that a call writes, or the error in its place. Of a document that is refused that tells
+    where and why, if it is given."""
     report, text = _told(call, *arguments)
-    refusal = _refusal(report, query, profile, text) if report.status else None
+    refusal = _refusal(report, query, profile, text, document) if report.status else None
     return text if refusal is None else refusal
 
 
@@ -286,6 +316,21 @@ def _part(query: str, profile: int, part: int) -> Optional[str]:
     return _told(_library.jp_explain, text, len(text), profile, part)[1] or None
 
 
+def _misreading(document: bytes) -> Tuple[Any, ...]:
+    """Where a document that is refused goes wrong, the name of the reason, and the sentence for it; nothing of
+    one that is too large to be read."""
+    place = _Place()
+    texts = []
+    for part in (_numbers.DOCUMENT_REASON, _numbers.DOCUMENT_SENTENCE):
+        report, text = _told(_library.jp_explain_document, document, len(document), part, place)
+        if report.status == _numbers.NO_MEMORY:
+            raise MemoryError(_NO_MEMORY_TEXT)
+        if report.status != _numbers.DONE:
+            return ()
+        texts.append(text)
+    return place.offset, place.line, place.column, texts[0], texts[1]
+
+
 def _raised(answer: Union[str, Exception]) -> str:
     """The text, or raises the error."""
     if isinstance(answer, Exception):
@@ -293,12 +338,17 @@ def _raised(answer: Union[str, Exception]) -> str:
     return answer
 
 
-def _refusal(report: _Report, query: str, profile: int, text: str) -> Optional[Exception]:
+def _refusal(
+    report: _Report, query: str, profile: int, text: str, document: Optional[bytes] = None
+) -> Optional[Exception]:
     if report.status == _numbers.QUERY_REFUSED:
         parts = (_part(query, profile, part) for part in (_numbers.SENTENCE, _numbers.SUGGESTION))
         return QueryError(_kind_name(_numbers.QUERY_REFUSED, report.kind), report.place, query, *parts)
     if report.status == _numbers.DOCUMENT_REFUSED:
-        return DocumentError(_kind_name(_numbers.DOCUMENT_REFUSED, report.kind), text or None)
+        misreading = () if document is None else _misreading(document)
+        return DocumentError(
+            _kind_name(_numbers.DOCUMENT_REFUSED, report.kind), text or None, *misreading
+        )
     if report.status == _numbers.NO_MEMORY:
         return MemoryError(_NO_MEMORY_TEXT)
     if report.status == _numbers.STEPS_USED_UP:
@@ -332,12 +382,11 @@ def evaluate(query: str, document: bytes, form: int, profile: int, limit: Option
     """The lines of the nodes that the query selects in the document."""
     text = _bytes(query)
     runs = _runs(_FIRST_RUN, limit)
-    answer = _answer(
-        _library.jp_eval, query, profile, text, len(text), document, len(document), form, profile, next(runs)
-    )
+    arguments = (text, len(text), document, len(document), form, profile, next(runs))
+    answer = _answer(_library.jp_eval, query, profile, *arguments, document=document)
     if isinstance(answer, StepsUsedUp) and answer.limit != limit:
         with _handle() as kept:
-            _raised(_answer(_library.jp_document_new, query, profile, document, len(document), kept))
+            _keep(document, kept)
             answer = _selected(query, kept, form, profile, runs)
     return _raised(answer)
 
@@ -353,7 +402,7 @@ def evaluate_many(
     late = [at for at, it in enumerate(answers) if isinstance(it, StepsUsedUp) and it.limit != limit]
     if late:
         with _handle() as kept:
-            _raised(_answer(_library.jp_document_new, "", profile, document, len(document), kept))
+            _keep(document, kept)
             for at in late:
                 answers[at] = _selected(queries[at], kept, form, profile, _runs(2 * first, limit))
     return answers
@@ -372,6 +421,11 @@ def _selected(
             if not isinstance(answer, StepsUsedUp) or _is_left():
                 break
     return answer
+
+
+def _keep(document: bytes, handle: _Handle) -> None:
+    """Keeps the document, or raises its error."""
+    _raised(_answer(_library.jp_document_new, "", STANDARD, document, len(document), handle, document=document))
 
 
 @contextlib.contextmanager
@@ -406,11 +460,11 @@ def _first_answers(
         size = _library.jp_eval_many(*arguments, room.buffer, room.size)
     written = ctypes.string_at(room.buffer, size)
     _give_back(room)
-    return _answers(queries, profile, questions, written)
+    return _answers(queries, document, profile, questions, written)
 
 
 def _answers(
-    queries: Sequence[str], profile: int, questions, written: bytes
+    queries: Sequence[str], document: bytes, profile: int, questions, written: bytes
 ) -> List[Union[str, QueryError, StepsUsedUp]]:
     answers: List[Union[str, QueryError, StepsUsedUp]] = []
     start = 0
@@ -418,7 +472,8 @@ def _answers(
         end = start + question.report.length
         text = written[start:end].decode()
         start = end
-        refusal = _refusal(question.report, query, profile, text) if question.report.status else None
+        report = question.report
+        refusal = _refusal(report, query, profile, text, document) if report.status else None
         if refusal is not None and not isinstance(refusal, (QueryError, StepsUsedUp)):
             raise refusal
         answers.append(text if refusal is None else refusal)

@@ -176,19 +176,39 @@ class Refusals(unittest.TestCase):
                 self.assertEqual((refused.exception.kind, refused.exception.place), (kind, place))
 
     def test_documents(self):
-        for document, kind, path in [
-            ("[1,]", "NotJson", None),
-            (b'"\xff"', "NotJson", None),
-            ('"\ud800"', "NotJson", None),
-            ("[" * 128 + "]" * 128, "NotJson", None),
-            ('{"a":[0,2.5]}', "NotWhole", "$['a'][1]"),
-            ([1e400], "NotJson", None),
-            ([0.5], "NotWhole", "$[0]"),
+        for document, kind, path, place, reason in [
+            ("[1,]", "NotJson", None, (3, 1, 4), "TrailingComma"),
+            ('["é",\n x]', "NotJson", None, (8, 2, 2), "WrongWord"),
+            (b'"\xff"', "NotJson", None, (1, 1, 2), "NotUtf8"),
+            ('"\ud800"', "NotJson", None, (1, 1, 2), "NotUtf8"),
+            ("[" * 128 + "]" * 128, "NotJson", None, (127, 1, 128), "TooManyLevels"),
+            ('{"a":[0,2.5]}', "NotWhole", "$['a'][1]", (8, 1, 9), "HasFraction"),
+            ([1e400], "NotJson", None, (1, 1, 2), "WrongWord"),
+            ([0.5], "NotWhole", "$[0]", (1, 1, 2), "HasFraction"),
+            ("", "NotJson", None, (0, 1, 1), "Empty"),
         ]:
-            with self.subTest(document=str(document)[:20]):
-                with self.assertRaises(jp.DocumentError) as refused:
-                    jp.find("$", document)
-                self.assertEqual((refused.exception.kind, refused.exception.path), (kind, path))
+            calls = (jp.find, jp.paths, jp.values, lambda it, document: jp.find_many([it], document))
+            for query in ("$", "$.*"):
+                for call in calls:
+                    with self.subTest(document=str(document)[:20], query=query):
+                        with self.assertRaises(jp.DocumentError) as refused:
+                            call(query, document)
+                        fault = refused.exception
+                        self.assertEqual((fault.kind, fault.path), (kind, path))
+                        self.assertEqual((fault.offset, fault.line, fault.column), place)
+                        self.assertEqual(fault.reason, reason)
+
+    def test_what_a_document_error_says(self):
+        for document, text in [
+            ("[1,\n]", "NotJson\nline 2, column 1: No comma may come before a closing bracket."),
+            ("[-0]", "NotWhole at $[0]\nline 1, column 2: -0 is no whole number of 64 bits."),
+        ]:
+            with self.assertRaises(jp.DocumentError) as refused:
+                jp.find("$", document)
+            fault = refused.exception
+            self.assertEqual(str(fault), f"document refused: {text}")
+            self.assertTrue(str(fault).endswith(fault.sentence))
+            self.assertEqual(str(pickle.loads(pickle.dumps(fault))), str(fault))
         self.assertEqual(str(jp.DocumentError("NotWhole", "$[0]")), "document refused: NotWhole at $[0]")
 
     def test_a_document_that_is_too_large(self):
@@ -203,7 +223,7 @@ class Refusals(unittest.TestCase):
                     _engine._library.jp_eval, "$", 0, text, len(text), document, size, 0, 0, 0
                 )
                 self.assertIsInstance(fault, jp.DocumentError)
-                self.assertEqual((fault.kind, fault.path), ("DocumentTooLarge", None))
+                self.assertEqual((fault.kind, fault.path, fault.offset), ("DocumentTooLarge", None, None))
             del first
 
     def test_the_query_first(self):

@@ -36,6 +36,12 @@ pub(crate) mod part {
     pub(crate) const SUGGESTION: u32 = 2;
 }
 
+pub(crate) mod document_part {
+    pub(crate) const DOCUMENT_LINE: u32 = 0;
+    pub(crate) const DOCUMENT_SENTENCE: u32 = 1;
+    pub(crate) const DOCUMENT_REASON: u32 = 2;
+}
+
 /// Why a query is refused.
 #[derive(Clone, Copy, Debug, PartialEq, Eq, Hash)]
 #[non_exhaustive]
