@@ -74,7 +74,7 @@ enum {
     JP_EXTENDED = 1  /* also `distinct` */
 };
 
-/* The parts of an explanation. */
+/* The parts of why a query is refused. */
 enum {
     JP_EXPLANATION = 0, /* all of it, each line with a newline at its end */
     JP_SENTENCE = 1,    /* why the query is refused */
@@ -83,7 +83,7 @@ enum {
 
 /* The parts of why a document is refused. */
 enum {
-    JP_DOCUMENT_LINE = 0,     /* the place, the path of a number that is not whole, and the sentence; a newline at its end */
+    JP_DOCUMENT_LINE = 0,     /* all of it: the place, the sentence, and a newline */
     JP_DOCUMENT_SENTENCE = 1, /* why the bytes are no document */
     JP_DOCUMENT_REASON = 2    /* the reason's name, as "TrailingComma", in ASCII */
 };

@@ -6,9 +6,12 @@
  * so that a page can take it as it is.
  */
 
-import { NO_LIMIT, NO_MEMORY, SENTENCE, SUGGESTION } from "./numbers.mjs";
+import { DOCUMENT_REASON, DOCUMENT_SENTENCE, NO_LIMIT, NO_MEMORY, SENTENCE, SUGGESTION } from "./numbers.mjs";
+
+export const NO_MEMORY_TEXT = "jp ran out of memory";
 
 const REPORT_LENGTH = 32;
+const PLACE_LENGTH = 24;
 const FIRST_ROOM = 1 << 12;
 
 const encoder = new TextEncoder();
@@ -66,6 +69,7 @@ export class Engine {
   #module;
   #exports;
   #report;
+  #place;
   #room;
   #roomLength;
 
@@ -113,6 +117,27 @@ export class Engine {
     return { sentence, suggestion };
   }
 
+  /**
+   * Why a document is refused, and where: `offset`, the byte; `line` and `column`, from 1; `reason`, the name of
+   * the reason; and `sentence`.
+   */
+  explainDocument(document) {
+    const [reason, sentence] = [DOCUMENT_REASON, DOCUMENT_SENTENCE].map((part) => {
+      const { status, text } = this.#answer([document], (texts) =>
+        this.#exports.jp_explain_document(
+          ...texts, part, this.#place, this.#room, BigInt(this.#roomLength), this.#report,
+        ),
+      );
+      if (status === NO_MEMORY) {
+        throw new RangeError(NO_MEMORY_TEXT);
+      }
+      return textOf(text);
+    });
+    const place = new DataView(this.#exports.memory.buffer, Number(this.#place), PLACE_LENGTH);
+    const [offset, line, column] = [0, 8, 16].map((at) => Number(place.getBigUint64(at, true)));
+    return { offset, line, column, reason, sentence };
+  }
+
   /** The name of a kind that an outcome of that status has. */
   kindName(status, kind) {
     const { text } = this.#answer([], () =>
@@ -124,6 +149,7 @@ export class Engine {
   #start() {
     this.#exports = new WebAssembly.Instance(this.#module).exports;
     this.#report = this.#allocate(REPORT_LENGTH);
+    this.#place = this.#allocate(PLACE_LENGTH);
     this.#room = this.#allocate(FIRST_ROOM);
     this.#roomLength = FIRST_ROOM;
   }
@@ -131,7 +157,7 @@ export class Engine {
   #allocate(length) {
     const at = this.#exports.jp_alloc(BigInt(length));
     if (at === 0n) {
-      throw new RangeError("jp ran out of memory");
+      throw new RangeError(NO_MEMORY_TEXT);
     }
     return at;
   }

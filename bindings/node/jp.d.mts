@@ -65,7 +65,7 @@ export class QueryError extends Error {
   readonly suggestion: string | null;
 }
 
-/** A document that is refused. */
+/** A document that is refused. Its message shows the path, the line, the column and the sentence. */
 export class DocumentError extends Error {
   readonly name: "DocumentError";
   readonly kind:
@@ -75,6 +75,16 @@ export class DocumentError extends Error {
     | "DocumentTooLarge";
   /** Of `NotWhole`, the normalized path of the first number that is not a whole one of 64 bits. */
   readonly path: string | null;
+  /** The byte of the document, in UTF-8, where it goes wrong, from 0. */
+  readonly offset: number;
+  /** The number of its line, from 1. */
+  readonly line: number;
+  /** Its column in that line, in characters from 1. */
+  readonly column: number;
+  /** The name of the reason, as `TrailingComma`. */
+  readonly reason: string;
+  /** The reason in words. */
+  readonly sentence: string;
 }
 
 /** A query that needs more steps over the document than the option `limit` allows. */

@@ -15,6 +15,7 @@ import {
   EXTENDED,
   NO_LIMIT,
   NO_MEMORY,
+  NO_MEMORY_TEXT,
   PATHS,
   QUERY_REFUSED,
   STANDARD,
@@ -60,11 +61,17 @@ export class QueryError extends Error {
 }
 
 export class DocumentError extends Error {
-  constructor(kind, path = null) {
-    super(`document refused: ${kind}${path === null ? "" : ` at ${path}`}`);
+  constructor(kind, path = null, { offset = null, line = null, column = null, reason = null, sentence = null } = {}) {
+    const at = path === null ? "" : ` at ${path}`;
+    super(`document refused: ${kind}${at}${sentence === null ? "" : `\nline ${line}, column ${column}: ${sentence}`}`);
     this.name = "DocumentError";
     this.kind = kind;
     this.path = path;
+    this.offset = offset;
+    this.line = line;
+    this.column = column;
+    this.reason = reason;
+    this.sentence = sentence;
   }
 }
 
@@ -178,22 +185,23 @@ function limitOf(options) {
 
 function linesOf(query, document, form, options) {
   const profile = profileOf(options);
-  const outcome = engine.evaluate(queryBytes(query), documentBytes(document), form, profile, limitOf(options));
+  const bytes = documentBytes(document);
+  const outcome = engine.evaluate(queryBytes(query), bytes, form, profile, limitOf(options));
   // Each line ends with a newline, which no path and no value has inside.
-  return told(outcome, query, profile).split("\n").slice(0, -1);
+  return told(outcome, query, profile, bytes).split("\n").slice(0, -1);
 }
 
-/** The text of an outcome, or the error that it stands for. */
-function told({ status, kind, place, steps, text: written }, query, profile) {
+/** The text of an outcome, or the error that it stands for: of a query, and of a document if one was read. */
+function told({ status, kind, place, steps, text: written }, query, profile, document) {
   // Further calls write where this one did.
   const text = textOf(written);
   switch (status) {
     case QUERY_REFUSED:
       throw new QueryError(engine.kindName(status, kind), place, query, engine.explain(queryBytes(query), profile));
     case DOCUMENT_REFUSED:
-      throw new DocumentError(engine.kindName(status, kind), text || null);
+      throw new DocumentError(engine.kindName(status, kind), text || null, engine.explainDocument(document));
     case NO_MEMORY:
-      throw new RangeError("jp ran out of memory");
+      throw new RangeError(NO_MEMORY_TEXT);
     case STEPS_USED_UP:
       throw new StepsUsedUp(steps, query);
     default:

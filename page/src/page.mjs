@@ -5,11 +5,6 @@ import { placeOf } from "./places.mjs";
 
 // Of such a query alone the engine says nothing, since it is no text.
 const HALF_A_PAIR = "Half of a surrogate pair is no character.";
-const DOCUMENT_MEANINGS = {
-  NotJson: "this is not one JSON text within 127 levels.",
-  NotWhole: "this number is not whole, or does not fit in 64 bits: ",
-  ListTooLong: "a list has more than (2^53)-1 items.",
-};
 const CANNOT_START =
   "This browser cannot run the engine, which is a WebAssembly module whose memory has addresses of 64 bits.";
 const NO_NODES = {
@@ -227,9 +222,11 @@ function showDocument({ document: refused }) {
     documentOutcome.replaceChildren();
     return;
   }
-  const words = made("p", "refused", made("strong", "", `${refused.kind}: `), DOCUMENT_MEANINGS[refused.kind]);
-  if (refused.path) {
-    words.append(pathButton(refused.path));
+  const { kind, line, column, sentence, path } = refused;
+  const heading = made("strong", "", `${kind} in line ${line}, column ${column}: `);
+  const words = made("p", "refused", heading, sentence);
+  if (path) {
+    words.append(" ", pathButton(path));
   }
   documentOutcome.replaceChildren(words);
 }

@@ -48,7 +48,7 @@ function cut(text) {
   return { text: text.slice(0, LONGEST_TEXT), left: Math.max(0, text.length - LONGEST_TEXT) };
 }
 
-/** Why there is no text, or null; of a query with why it is refused and what to try. */
+/** Why there is no text, or null: of a query with the sentence and what to try, of a document with the place too. */
 function refusal({ status, kind, place, text }, query, profile) {
   // A further call writes where this one did.
   const path = status === DOCUMENT_REFUSED ? textOf(text) : "";
@@ -56,7 +56,7 @@ function refusal({ status, kind, place, text }, query, profile) {
     case QUERY_REFUSED:
       return { query: { kind: engine.kindName(status, kind), place, ...engine.explain(query, profile) } };
     case DOCUMENT_REFUSED:
-      return { document: { kind: engine.kindName(status, kind), path } };
+      return { document: { kind: engine.kindName(status, kind), path, ...engine.explainDocument(documentBytes) } };
     case NO_MEMORY:
       return { fault: "The memory that this page may use did not suffice." };
     default:

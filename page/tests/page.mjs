@@ -129,10 +129,15 @@ async function suggestsQueries() {
 }
 
 async function showsRefusedDocuments() {
-  for (const [document, path] of [['{"a":[0,{"b":2.5}]}', "$['a'][1]['b']"], ["[1,]", null]]) {
+  const fraction = "A number with a fraction or an exponent is no whole number.";
+  for (const [document, place, sentence, path] of [
+    ['{"a":[0,{"b":2.5}]}', "line 1, column 14", fraction, "$['a'][1]['b']"],
+    ['["é",\n 2,]', "line 2, column 4", "No comma may come before a closing bracket.", null],
+  ]) {
     await open({ q: "$.a", d: document });
-    const kind = await textOf("#document-outcome strong");
-    assert.equal(`document refused: ${kind}`, `${byProgram("eval", "$.a", document).fault}: `);
+    const kind = byProgram("eval", "$.a", document).fault.replace("document refused: ", "");
+    const words = `${kind} in ${place}: ${sentence}${path === null ? "" : ` ${path}`}`;
+    assert.equal(await textOf("#document-outcome .refused"), words);
     assert.equal(await textOf("#document-outcome button"), path);
   }
   await open({ q: "$.a", d: '{"a":[0,{"b":2.5}]}' });

@@ -147,17 +147,34 @@ test("kinds of refusal", () => {
 });
 
 test("documents that are refused", () => {
-  for (const [document, kind, path] of [
-    ["[1,]", "NotJson", null],
-    [Uint8Array.of(0x22, 0xff, 0x22), "NotJson", null],
-    ['"\ud800"', "NotJson", null],
-    ["[".repeat(128) + "]".repeat(128), "NotJson", null],
-    ["[1e400]", "NotJson", null],
-    ['{"a":[0,2.5]}', "NotWhole", "$['a'][1]"],
-    [[0.5], "NotWhole", "$[0]"],
+  for (const [document, kind, path, place, reason] of [
+    ["[1,]", "NotJson", null, [3, 1, 4], "TrailingComma"],
+    ['["é😀",\n x]', "NotJson", null, [12, 2, 2], "WrongWord"],
+    [Uint8Array.of(0x22, 0xff, 0x22), "NotJson", null, [1, 1, 2], "NotUtf8"],
+    ['"\ud800"', "NotJson", null, [1, 1, 2], "NotUtf8"],
+    ["[".repeat(128) + "]".repeat(128), "NotJson", null, [127, 1, 128], "TooManyLevels"],
+    ["[1e400]", "NotJson", null, [1, 1, 2], "BeyondFloat"],
+    ['{"a":[0,2.5]}', "NotWhole", "$['a'][1]", [8, 1, 9], "HasFraction"],
+    [[0.5], "NotWhole", "$[0]", [1, 1, 2], "HasFraction"],
+    ["", "NotJson", null, [0, 1, 1], "Empty"],
+  ]) {
+    for (const call of [jp.find, jp.paths, jp.values, (query, it) => jp.findMany([query], it)]) {
+      const refused = thrown(jp.DocumentError, () => call("$", document));
+      assert.deepEqual([refused.kind, refused.path], [kind, path]);
+      assert.deepEqual([refused.offset, refused.line, refused.column], place);
+      assert.equal(refused.reason, reason);
+    }
+  }
+});
+
+test("what is said of a document that is refused", () => {
+  for (const [document, text] of [
+    ["[1,\n]", "NotJson\nline 2, column 1: No comma may come before a closing bracket."],
+    ["[-0]", "NotWhole at $[0]\nline 1, column 2: -0 is no whole number of 64 bits."],
   ]) {
     const refused = thrown(jp.DocumentError, () => jp.find("$", document));
-    assert.deepEqual([refused.kind, refused.path], [kind, path]);
+    assert.equal(refused.message, `document refused: ${text}`);
+    assert.ok(refused.message.endsWith(`: ${refused.sentence}`));
   }
   assert.equal(new jp.DocumentError("NotWhole", "$[0]").message, "document refused: NotWhole at $[0]");
 });
