@@ -8,14 +8,13 @@
  * jp.d.mts has the types, and what each call gives.
  */
 import { readFileSync } from "node:fs";
-import { Engine, bytesOf, indexAt, textOf } from "./engine.mjs";
+import { Engine, NO_MEMORY_TEXT, bytesOf, indexAt, textOf } from "./engine.mjs";
 import {
   BOTH,
   DOCUMENT_REFUSED,
   EXTENDED,
   NO_LIMIT,
   NO_MEMORY,
-  NO_MEMORY_TEXT,
   PATHS,
   QUERY_REFUSED,
   STANDARD,
