@@ -253,6 +253,16 @@ uint32_t jp_explain(const uint8_t *query, size_t query_length, uint32_t profile,
     return proved_jp_explain(query, query_length, profile, part, out, out_length, report);
 }
 
+PROVED(explain_document);
+uint32_t jp_explain_document(const uint8_t *document, size_t document_length, uint32_t part, struct jp_place *place,
+                             uint8_t *out, size_t out_length, struct jp_report *report) {
+    if (IS_SHORT(DOCUMENT, depth_of_document(document, document_length))) {
+        *place = (struct jp_place){0, 0, 0};
+        return no_stack(report);
+    }
+    return proved_jp_explain_document(document, document_length, part, place, out, out_length, report);
+}
+
 PROVED(kind_name);
 uint32_t jp_kind_name(uint32_t status, uint32_t kind,
                       uint8_t *out, size_t out_length, struct jp_report *report) {
