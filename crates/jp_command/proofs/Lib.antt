@@ -6,6 +6,7 @@ pub mod Runs
 pub mod Kept
 pub mod Told
 pub mod Explaining
+pub mod Shown
 pub mod LineLemmas
 pub mod Flushes
 pub mod FoundLines

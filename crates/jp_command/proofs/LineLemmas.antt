@@ -22,7 +22,7 @@ use Rattle.jp_command.proofs.Streams.{Appends-twice}
 -- nodes that have the same in their lines have the same lines
 pub line_alike : (lead : List ℕ) (form : Form) (n p : Node) → text_in_line form n ≡ text_in_line form p
     → line_behind lead form n ≡ line_behind lead form p
-line_alike lead form n p same = ap (λ t. lead ++ t ++ codes "\n") same
+line_alike lead form n p same = ap (λ t. lead ++ (t ++ codes "\n")) same
 
 -- o and p are the output before and now, and line_of is the line of each node
 module _ {W : Type 0} (contents : W → Option (List ℕ)) (has_failed : W → Bool)

@@ -1,4 +1,9 @@
+use Rattle.std.proofs.Common.{◌≡◌, ◌++◌, ◌∙◌, ap, append_assoc, rules, string_bytes, sym}
+use Rattle.std.specs.List.{flat_map}
+use Rattle.jp_evaluate.specs.Lent.{lent_node, rest_of}
 use Rattle.jp_select.proofs.Stepping.{takes_then}
+use Rattle.jp_command.specs.Lines.{line_behind, line_of}
+use Rattle.jp_command.proofs.LineLemmas.{line_alike}
 use Rattle.jp_command.proofs.lines.lines_of_rest.Goals as goal
 
 pub returns-in_err-value-clause-takes : goal.returns-in_err-value-clause-takes
@@ -16,3 +21,28 @@ returns-in_err-push_line-clause-takes g c =
 pub returns-clause-takes : goal.returns-clause-takes
 returns-clause-takes g c =
     takes_then c.loop-next.invariant.taken c.next_shown.ensures.takes
+
+pub loop-next-preserved : goal.loop-next-preserved
+loop-next-preserved g c =
+    let behind = line_behind c.args.lead.now c.args.form in
+    let rest = rest_of g.V.Lent.meaning in
+    let old = string_bytes c.loop-next.lines in
+    let given = rw (c.in-Some.is, c.in_ok-value.was) at c.next_shown.ensures.gives in
+    let n = given.0 in
+    let there = line_of c.args.form
+        (lent_node g.V.Lent.meaning (c.next_shown.new.location, c.in_ok-value.value)) in
+    let led : string_bytes c.push_str.new.self ≡ old ++ c.args.lead.now = search rules in
+    let lined : string_bytes c.push_line.new.line ≡ string_bytes c.push_str.new.self ++ there =
+        search rules in
+    let shown = lined ∙ ap (λ t. t ++ there) led ∙ append_assoc old c.args.lead.now there in
+    let line : string_bytes c.push_line.new.line ≡ old ++ behind n =
+        shown ∙ ap (λ t. old ++ t) (sym (line_alike c.args.lead.now c.args.form n _ given.4)) in
+    record {
+      front = search rules;
+      working = given.2;
+      all = ap (λ t. t ++ flat_map behind (rest c.next_shown.new.nodes)) line
+          ∙ append_assoc old (behind n) _
+          ∙ ap (λ ns. old ++ flat_map behind ns) (sym given.3)
+          ∙ c.loop-next.invariant.all;
+      taken = takes_then c.loop-next.invariant.taken c.next_shown.ensures.takes;
+    }

@@ -29,16 +29,15 @@ returns-in_err-push_line-clause-stopped g c =
 pub returns-in_default-write_all-clause-stopped : goal.returns-in_default-write_all-clause-stopped
 returns-in_default-write_all-clause-stopped g c =
     let behind = line_behind c.args.lead.now c.args.form in
-    let gives = c.next_unlimited.ensures.gives in
-    let n = gives.0 c.in_ok-value.value in
-    let steps = rw (c.in-Some.is, c.in_ok-value.was) at gives.1 in
+    let given = rw (c.in-Some.is, c.in_ok-value.was) at c.next_unlimited.ensures.gives in
+    let n = given.0 in
     let shown : c.as_bytes.result.now
         ≡ behind (lent_node g.V.Lent.meaning (c.next_unlimited.new.location, c.in_ok-value.value)) =
         search rules in
-    let line = shown ∙ sym (line_alike c.args.lead.now c.args.form n _ (gives.2 c.in_ok-value.value)) in (
+    let line = shown ∙ sym (line_alike c.args.lead.now c.args.form n _ given.4) in (
       part-is_prefix g.W.Writer.contents g.W.Writer.has_failed g.W.Writer.write_takes behind _ _ _ _
           (given_part g.W.Writer.contents g.W.Writer.has_failed g.W.Writer.write_takes behind _ _ _ n _ _ _
-          c.loop-next.invariant.written steps.2 (rw line at c.in_default-write_all.ensures.prefix)
+          c.loop-next.invariant.written given.3 (rw line at c.in_default-write_all.ensures.prefix)
           (rw line at c.in_default-write_all.ensures.stopped)),
       c.in_default-write_all.ensures.failed,
     )
@@ -59,16 +58,15 @@ pub returns-in_default-write_all-clause-as_found :
     goal.returns-in_default-write_all-clause-as_found
 returns-in_default-write_all-clause-as_found g c =
     let behind = line_behind c.args.lead.now c.args.form in
-    let gives = c.next_unlimited.ensures.gives in
-    let n = gives.0 c.in_ok-value.value in
-    let steps = rw (c.in-Some.is, c.in_ok-value.was) at gives.1 in
+    let given = rw (c.in-Some.is, c.in_ok-value.was) at c.next_unlimited.ensures.gives in
+    let n = given.0 in
     let shown : c.as_bytes.result.now
         ≡ behind (lent_node g.V.Lent.meaning (c.next_unlimited.new.location, c.in_ok-value.value)) =
         search rules in
-    let line = shown ∙ sym (line_alike c.args.lead.now c.args.form n _ (gives.2 c.in_ok-value.value)) in (
-      steps.1,
+    let line = shown ∙ sym (line_alike c.args.lead.now c.args.form n _ given.4) in (
+      given.2,
       given_part g.W.Writer.contents g.W.Writer.has_failed g.W.Writer.write_takes behind _ _ _ n _ _ _
-          c.loop-next.invariant.written steps.2 (rw line at c.in_default-write_all.ensures.prefix)
+          c.loop-next.invariant.written given.3 (rw line at c.in_default-write_all.ensures.prefix)
           (rw line at c.in_default-write_all.ensures.stopped),
     )
 
@@ -81,19 +79,18 @@ returns-in_default-write_all-clause-calls g c =
 pub loop-next-preserved : goal.loop-next-preserved
 loop-next-preserved g c =
     let behind = line_behind c.args.lead.now c.args.form in
-    let gives = c.next_unlimited.ensures.gives in
-    let n = gives.0 c.in_ok-value.value in
-    let steps = rw (c.in-Some.is, c.in_ok-value.was) at gives.1 in
+    let given = rw (c.in-Some.is, c.in_ok-value.was) at c.next_unlimited.ensures.gives in
+    let n = given.0 in
     let shown : c.as_bytes.result.now
         ≡ behind (lent_node g.V.Lent.meaning (c.next_unlimited.new.location, c.in_ok-value.value)) =
         search rules in
-    let line = shown ∙ sym (line_alike c.args.lead.now c.args.form n _ (gives.2 c.in_ok-value.value)) in
+    let line = shown ∙ sym (line_alike c.args.lead.now c.args.form n _ given.4) in
     record {
       front = search rules;
-      working = steps.1;
+      working = given.2;
       unlimited = c.next_unlimited.ensures.unlimited;
       written = given_more g.W.Writer.contents g.W.Writer.has_failed g.W.Writer.write_takes behind _ _ _ n _ _ _
-          c.loop-next.invariant.written steps.2 (rw line at c.in-Ok.ensures.ok)
+          c.loop-next.invariant.written given.3 (rw line at c.in-Ok.ensures.ok)
           (rw line at c.in-Ok.ensures.calls);
       works = search rules;
     }
