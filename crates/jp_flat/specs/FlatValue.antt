@@ -1,11 +1,13 @@
 -- Values of documents in tables, wherever they stand (RFC 9535 section 1.1).
-use Rattle.std.specs.Prelude.{◌≡◌, ℕ, List, Option, option_map}
+use Rattle.std.specs.Prelude.{◌≡◌, ℕ, List, Option, Some, None, option_map}
 use Rattle.jp_document.specs.Document.{IsDocument}
 use Rattle.jp_document.specs.Location.{Location, Step, step_of, value_at}
 use Rattle.jp_document.specs.Value.{Value}
 use Rattle.jp_document.specs.declared.location.Step as code
 use Rattle.jp_flat.specs.Flat.{meaning, shown}
 use Rattle.jp_flat.specs.declared.flat.Flat.{Flat}
+use Rattle.jp_flat.specs.declared.flat.Found.{Found}
+use Rattle.jp_flat.specs.declared.flat.Found.TheVariants as found
 use Rattle.jp_flat.specs.declared.flat_value.FlatValue.{FlatValue}
 
 -- the value of a document in tables
@@ -17,6 +19,11 @@ pub record IsValueAt (bytes : List ℕ) (l : Location) (found : Option Flat) : T
   pub document : Value
   pub is : IsDocument bytes document
   pub at : value_at document l ≡ option_map document_in found
+
+-- the tables of the value that was found, if there is one
+abbrev pub flat_found : Found → Option Flat
+flat_found (found.Value f) = Some f
+flat_found (found.Nothing room) = None
 
 -- the value that a `FlatValue` lends
 abbrev pub lent_flat : FlatValue → Value

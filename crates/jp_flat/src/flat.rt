@@ -1,6 +1,7 @@
 //! Documents in tables.
-ghost use Rattle.std.specs.Prelude.{◌≡◌, [], true, IfOk, IfSome, OnSome, Some, string_bytes};
+ghost use Rattle.std.specs.Prelude.{◌≡◌, [], true, IfOk, IfSome, OnSome, Some, map, string_bytes};
 ghost use Rattle.jp_document.specs.Document.{IsDocument};
+ghost use Rattle.jp_document.specs.Location.{step_of};
 ghost use Rattle.jp_flat.specs.Flat.{is_flat, meaning, shown};
 ghost use Rattle.jp_flat.specs.Private.Reading.{ReadsFlatText};
 ghost use Rattle.jp_flat.specs.Room.{IsIdle};
@@ -11,7 +12,8 @@ use crate::item::{Item, Named};
 use crate::of_tree::put_value;
 use crate::reading::{Pending, lone_value};
 use crate::tables::{MAX_DEPTH, Tables, parts_in};
-use jp_document::DocumentValue;
+use crate::value_at::value_in;
+use jp_document::{DocumentValue, Step};
 use std::alloc::{AllocError, Global};
 
 /// A document in tables, which are made of its text.
@@ -79,6 +81,15 @@ pub fn flat_document(alloc: Global, bytes: &[u8]) -> Option<Flat<'_>>
     Room::new(alloc).read(bytes).ok()
 }
 
+/// What a document has at a location, in the memory that goes on to the next document.
+#[derive(Drop)]
+pub enum Found<'t> {
+    /// The value there, in tables that hold nothing else.
+    Value(Flat<'t>),
+    /// There is none. This is the memory.
+    Nothing(Room),
+}
+
 /// Memory to read documents into, which goes from one to the next. Nothing is being read in it: what
 /// a document left unread is not kept.
 #[derive(Drop)]
@@ -91,7 +102,7 @@ pub struct Room {
 }
 
 impl Room {
-    ghost use Rattle.jp_flat.specs.FlatValue.{document_in};
+    ghost use Rattle.jp_flat.specs.FlatValue.{IsValueAt, document_in, flat_found};
 
     /// No memory yet: it is taken as documents need it.
     pub fn new(alloc: Global) -> Room {
@@ -125,6 +136,7 @@ impl Room {
         };
         let mut pending = self.pending;
         let mut tables = Tables::of(text, self.spare, self.items, self.members);
+        tables.reserve(parts_in(bytes, 64));
         pending.reserve(parts_in(bytes, 16));
         let read = root(&mut tables, &mut pending);
         match read {
@@ -134,6 +146,30 @@ impl Room {
                 pending,
             }),
             None => Err(Room::of(tables, pending)),
+        }
+    }
+
+    /// The value at this location of the document that these bytes are, or that it has none there. It is
+    /// found while the document is read, and takes no memory for what stands elsewhere but for unescaped
+    /// texts. An `Err` gives the memory back, and says nothing of the bytes.
+    pub fn read_at<'t>(self, bytes: &'t [u8], location: &[Step<'_>]) -> Result<Found<'t>, Room>
+        ensures { IfOk result (λ f. IsValueAt bytes.now (map step_of location.now) (flat_found f)) }
+    {
+        let Ok(text) = simdutf8::basic::from_utf8(bytes) else {
+            return Err(self);
+        };
+        let mut pending = self.pending;
+        let mut tables = Tables::of(text, self.spare, self.items, self.members);
+        let Some(found) = value_in(&mut tables, &mut pending, location) else {
+            return Err(Room::of(tables, pending));
+        };
+        match found {
+            Some(root) => Ok(Found::Value(Flat {
+                tables,
+                root,
+                pending,
+            })),
+            None => Ok(Found::Nothing(Room::of(tables, pending))),
         }
     }
 }

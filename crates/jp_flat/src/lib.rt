@@ -44,6 +44,6 @@ mod tests;
 mod token;
 mod value_at;
 
-pub use flat::{Flat, Room, flat_document};
+pub use flat::{Flat, Found, Room, flat_document};
 pub use flat_value::FlatValue;
 pub use value_at::{flat_value_at, found_value};

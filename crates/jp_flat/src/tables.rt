@@ -52,7 +52,6 @@ impl<'t> Tables<'t> {
         tables.spare.clear();
         tables.items.clear();
         tables.members.clear();
-        tables.reserve(parts_in(text.as_bytes(), 64));
         tables
     }
 
@@ -74,8 +73,9 @@ impl<'t> Tables<'t> {
 
     /// Takes memory for so many items and members at once. Where there is none, the tables grow as
     /// they are filled.
-    fn reserve(&mut self, count: usize)
-        ensures { shown self.new ≡ shown self.old }
+    pub(crate) fn reserve(&mut self, count: usize)
+        ensures same { shown self.new ≡ shown self.old }
+        ensures text { self.new.text.now ≡ self.old.text.now }
     {
         let _ = self.items.reserve(count);
         let _ = self.members.reserve(count);

@@ -7,7 +7,7 @@ ghost use Rattle.jp_flat.specs.Private.Found.{FindsInText};
 
 use crate::cursor::Cursor;
 use crate::finding::find;
-use crate::flat::Flat;
+use crate::flat::{Flat, Found, Room};
 use crate::flat_value::FlatValue;
 use crate::item::Item;
 use crate::reading::Pending;
@@ -26,17 +26,10 @@ pub fn flat_value_at<'t>(
 ) -> Option<Option<Flat<'t>>>
     ensures { IfSome result (IsValueAt bytes.now (map step_of location.now)) }
 {
-    let text = simdutf8::basic::from_utf8(bytes).ok()?;
-    let mut tables = Tables::new(alloc, text);
-    let mut pending = Pending::new(alloc);
-    let found = value_in(&mut tables, &mut pending, location)?;
-    match found {
-        Some(root) => Some(Some(Flat {
-            tables,
-            root,
-            pending,
-        })),
-        None => Some(None),
+    match Room::new(alloc).read_at(bytes, location) {
+        Ok(Found::Value(flat)) => Some(Some(flat)),
+        Ok(Found::Nothing(_)) => Some(None),
+        Err(_) => None,
     }
 }
 
@@ -51,7 +44,7 @@ pub fn found_value<'f, 't>(found: &'f Option<Flat<'t>>) -> Option<FlatValue<'f, 
 }
 
 /// Reads a whole text, and finds the value at a location.
-fn value_in(
+pub(crate) fn value_in(
     tables: &mut Tables<'_>,
     pending: &mut Pending,
     location: &[Step<'_>],

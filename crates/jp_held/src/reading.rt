@@ -5,11 +5,11 @@
 ghost use Rattle.std.specs.Prelude.{◌≡◌, IfErr, IfOk, map};
 ghost use Rattle.jp_document.specs.Document.{IsDocument, IsDocumentFault};
 ghost use Rattle.jp_document.specs.Location.{step_of};
-ghost use Rattle.jp_flat.specs.FlatValue.{IsValueAt, document_in};
+ghost use Rattle.jp_flat.specs.FlatValue.{IsValueAt, document_in, flat_found};
 
 use crate::document::Document;
 use jp_document::{DocumentFault, Step};
-use jp_flat::{Flat, Room, flat_document, flat_value_at};
+use jp_flat::{Flat, Found, Room, flat_document, flat_value_at};
 use std::alloc::Global;
 
 /// The document that these bytes are, in tables, else what is wrong with them. `NoMemory` says
@@ -51,6 +51,27 @@ pub fn read_value_at<'t>(
     match flat_value_at(alloc, bytes, location) {
         Some(found) => Ok(found),
         None => value_by_tree(alloc, bytes, location),
+    }
+}
+
+/// The same in the memory of other documents, which an `Err` gives back.
+pub fn read_value_into<'t>(
+    alloc: Global,
+    room: Room,
+    bytes: &'t [u8],
+    location: &[Step<'_>],
+) -> Result<Found<'t>, (Room, DocumentFault)>
+    ensures ok { IfOk result
+        (λ f. IsValueAt bytes.now (map step_of location.now) (flat_found f)) }
+    ensures fault { IfErr result (λ e. IsDocumentFault bytes.now e.1) }
+{
+    match room.read_at(bytes, location) {
+        Ok(found) => Ok(found),
+        Err(room) => match value_by_tree(alloc, bytes, location) {
+            Ok(Some(flat)) => Ok(Found::Value(flat)),
+            Ok(None) => Ok(Found::Nothing(room)),
+            Err(fault) => Err((room, fault)),
+        },
     }
 }
 

@@ -1,5 +1,5 @@
 //! One value of a document, found while the document is read.
-use crate::{flat_value_at, found_value};
+use crate::{Found, Room, flat_value_at, found_value};
 use jp_document::Step;
 use jp_lent::value_text;
 use std::alloc::{AllocError, Global};
@@ -92,6 +92,40 @@ fn what_is_no_document(rt: HostRuntime) -> Result<(), Fail> {
             found_text(rt.alloc(), text, &[Step::Name("a")])?.is_none(),
             "{text}"
         );
+    }
+    Ok(())
+}
+
+/// The same of many documents in one memory.
+#[test]
+fn one_document_after_another(rt: HostRuntime) -> Result<(), Fail> {
+    let mut room = Room::new(rt.alloc());
+    let rows: [(&str, Option<&str>); 6] = [
+        (r#"{"a":[0,["\u0061",{}]]}"#, Some(r#"["a",{}]"#)),
+        (r#"{"a":[0]}"#, None),
+        (
+            r#"{"b":"\u0062","a":["\u0063",{"d":[1]}]}"#,
+            Some(r#"{"d":[1]}"#),
+        ),
+        (r#"{"a":[0,[1,]}"#, None),
+        ("[]", None),
+        (r#"{"a":[7,8]}"#, Some("8")),
+    ];
+    for (text, wanted) in rows {
+        let (text, given_back) = match room.read_at(
+            text.as_bytes(),
+            &[Step::Name("a"), Step::Index(1)],
+        ) {
+            Ok(Found::Value(flat)) => {
+                (
+                    Some(value_text(rt.alloc(), flat.value())?),
+                    flat.into_room(),
+                )
+            }
+            Ok(Found::Nothing(room)) | Err(room) => (None, room),
+        };
+        assert_eq!(rt; text.as_deref(), wanted);
+        room = given_back;
     }
     Ok(())
 }

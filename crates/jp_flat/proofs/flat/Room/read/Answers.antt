@@ -9,8 +9,8 @@ invariant_of-result c =
     let t = shown c.root-read.new.tables in
     let i = c.in-Some.root in
     let both : (c.in-Ok.text.now ≡ c.args.bytes.now) × IsUtf8 c.args.bytes.now = search rules in
-    let source : c.of-tables.result.text.now ≡ c.args.bytes.now =
-    c.of-tables.ensures.source ∙ both.0 in
+    let source : c.reserve.new.self.text.now ≡ c.args.bytes.now =
+    c.reserve.ensures.text ∙ c.of-tables.ensures.source ∙ both.0 in
     record {
       sound = flat-sound c.args.bytes.now t i both.1
           (subst (λ s. ReadsFlatText s t i) source c.in-Some.ensures);

@@ -1,0 +1,42 @@
+use Rattle.std.proofs.Common.{◌≡◌, ◌∙◌, IsUtf8, map, refl, rules, subst}
+use Rattle.jp_document.specs.Location.{step_of}
+use Rattle.jp_flat.specs.Flat.{shown}
+use Rattle.jp_flat.specs.Private.Found.{FindsInText}
+use Rattle.jp_flat.proofs.Documents.{found-sound, none-found, value-found}
+use Rattle.jp_flat.proofs.flat.Room.read_at.Goals as goal
+
+pub invariant_of-result : goal.invariant_of-result
+invariant_of-result c =
+    let bytes = c.args.bytes.now in
+    let t = shown c.value_in.new.tables in
+    let l = map step_of c.args.location.now in
+    let both : (c.in-Ok.text.now ≡ bytes) × IsUtf8 bytes = search rules in
+    record {
+      sound = found-sound bytes t l both.1 c.in-Some-found.root
+          (subst (FindsInText bytes t l) c.in-Some-found.is
+          (subst (λ s. FindsInText s t l c.in-Some.found) (c.of-tables.ensures.source ∙ both.0)
+          c.in-Some.ensures));
+    }
+
+pub returns-in-Some-found : goal.returns-in-Some-found
+returns-in-Some-found c =
+    let bytes = c.args.bytes.now in
+    let t = shown c.value_in.new.tables in
+    let l = map step_of c.args.location.now in
+    let both : (c.in-Ok.text.now ≡ bytes) × IsUtf8 bytes = search rules in
+    value-found bytes t l both.1 _
+    (subst (FindsInText bytes t l) c.in-Some-found.is
+    (subst (λ s. FindsInText s t l c.in-Some.found) (c.of-tables.ensures.source ∙ both.0)
+    c.in-Some.ensures))
+    refl
+
+pub returns-in-None : goal.returns-in-None
+returns-in-None c =
+    let bytes = c.args.bytes.now in
+    let t = shown c.value_in.new.tables in
+    let l = map step_of c.args.location.now in
+    let both : (c.in-Ok.text.now ≡ bytes) × IsUtf8 bytes = search rules in
+    none-found bytes t l both.1
+    (subst (FindsInText bytes t l) c.in-None.is
+    (subst (λ s. FindsInText s t l c.in-Some.found) (c.of-tables.ensures.source ∙ both.0)
+    c.in-Some.ensures))
