@@ -16,7 +16,7 @@ use crate::evaluating::{Evaluation, Work};
 use crate::evaluation_fault::EvaluationFault;
 use crate::pattern::Patterns;
 use crate::settled::has_answers_due;
-use crate::walk::{Reached, Walk};
+use crate::walk::{Frame, Reached, Walk};
 use jp_check::Checked;
 use jp_document::Step;
 use jp_lent::Selectable;
@@ -104,6 +104,26 @@ pub fn lent_nodes_with<'d: 'q, 'q, V: Selectable + 'd, M: Matching>(
     ensures patterns { texts_kept result ≡ texts_in patterns }
     ensures steps { steps_of result ≡ steps }
 {
+    let frames = Vec::new(alloc);
+    lent_nodes_in(alloc, root, query, matcher, patterns, frames, steps)
+}
+
+/// The same in the memory of the frames of other evaluations.
+pub fn lent_nodes_in<'d: 'q, 'q, V: Selectable + 'd, M: Matching>(
+    alloc: Global,
+    root: V,
+    query: &'q Checked,
+    matcher: &'q M,
+    patterns: Patterns,
+    frames: Vec<Frame<'d, V>>,
+    steps: Steps,
+) -> LentNodes<'d, 'q, V, M>
+    ensures working { has_failed result ≡ false }
+    ensures nodes { rest_of V.meaning result
+        ≡ nodelist (query_of query.now.query) (V.meaning root) }
+    ensures patterns { texts_kept result ≡ texts_in patterns }
+    ensures steps { steps_of result ≡ steps }
+{
     LentNodes {
         evaluation: Evaluation {
             alloc,
@@ -112,7 +132,7 @@ pub fn lent_nodes_with<'d: 'q, 'q, V: Selectable + 'd, M: Matching>(
         },
         work: Work { patterns, steps },
         segments: Segments::of(query.query()),
-        walk: Walk::from(alloc, root),
+        walk: Walk::within(frames, root),
         failed: false,
     }
 }
@@ -136,12 +156,23 @@ impl<'d: 'q, 'q, V: Selectable + 'd, M: Matching> LentNodes<'d, 'q, V, M> {
         ensures patterns { texts_in result.0 ≡ filter is_short (texts_kept self.entry) }
         ensures steps { result.1 ≡ steps_of self.entry }
     {
+        let (patterns, steps, _) = self.into_rooms();
+        (patterns, steps)
+    }
+
+    /// The same, and the memory of its frames, with none in it.
+    pub fn into_rooms(self) -> (Patterns, Steps, Vec<Frame<'d, V>>)
+        ensures patterns { texts_in result.0 ≡ filter is_short (texts_kept self.entry) }
+        ensures steps { result.1 ≡ steps_of self.entry }
+        ensures frames { result.2.items ≡ [] }
+    {
+        let LentNodes { work, walk, .. } = self;
         let Work {
             mut patterns,
             steps,
-        } = self.work;
+        } = work;
         patterns.forget_long();
-        (patterns, steps)
+        (patterns, steps, walk.into_frames())
     }
 
     /// The next node: its value, and in `location` the steps to it instead of what that held; None

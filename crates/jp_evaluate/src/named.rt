@@ -1,5 +1,6 @@
 //! The location that a query names (RFC 9535 section 2.7).
-ghost use Rattle.std.specs.Prelude.{◌≡◌, IfOk, IfSome, is_some, map, option_map};
+ghost use Rattle.std.specs.Prelude.{◌≡◌, [], if◌then◌else◌, IfOk, IfSome, None, Some};
+ghost use Rattle.std.specs.Prelude.{is_some, map, option_map, true};
 ghost use Rattle.jp_document.specs.Location.{step_of};
 ghost use Rattle.jp_tree.specs.Views.{query_of, segment_of, selector_of};
 ghost use Rattle.jp_evaluate.specs.Named.{NamesLocation, location_named, step_of_segment};
@@ -23,11 +24,32 @@ pub fn named_location<'q>(
     ensures exact { IfOk result (λ o. option_map (λ l. map step_of l.items) o
         ≡ location_named (query_of query.now.query)) }
 {
+    let mut location = Vec::new(alloc);
+    if name_location(query, &mut location)? {
+        Ok(Some(location))
+    } else {
+        Ok(None)
+    }
+}
+
+/// The same in the memory of a list, in place of what it holds: whether the query names a location.
+pub fn name_location<'q>(
+    query: &'q Checked,
+    location: &mut Vec<Step<'q>>,
+) -> Result<bool, AllocError>
+    ensures names { IfOk result (λ is_named. is_named ≡ true
+        → NamesLocation (query_of query.now.query) (map step_of location.new.items)) }
+    ensures exact { IfOk result (λ is_named.
+        (if is_named then Some (map step_of location.new.items) else None)
+        ≡ location_named (query_of query.now.query)) }
+{
+    location.clear();
     let query = query.query();
     if !names_steps(query) {
-        return Ok(None);
+        return Ok(false);
     }
-    location_of_steps(alloc, query)
+    location.reserve(query.segments.len())?;
+    push_steps(query, location)
 }
 
 /// Whether each segment names a step.
@@ -42,22 +64,20 @@ pub(crate) fn names_steps(query: &Query) -> bool
     true
 }
 
-/// The steps that the segments name, None where one names none.
-fn location_of_steps<'q>(
-    alloc: Global,
-    query: &'q Query,
-) -> Result<Option<Vec<Step<'q>>>, AllocError>
-    ensures { IfOk result (λ o. option_map (λ l. map step_of l.items) o
+/// Puts the steps that the segments name into a list that holds none; whether each names one.
+fn push_steps<'q>(query: &'q Query, location: &mut Vec<Step<'q>>) -> Result<bool, AllocError>
+    requires { location.old.items ≡ [] }
+    ensures { IfOk result (λ is_named.
+        (if is_named then Some (map step_of location.new.items) else None)
         ≡ location_named (query_of query.now)) }
 {
-    let mut location = Vec::with_capacity(alloc, query.segments.len())?;
     for segment in &query.segments {
         let Some(step) = segment_step(segment) else {
-            return Ok(None);
+            return Ok(false);
         };
         location.push(step)?;
     }
-    Ok(Some(location))
+    Ok(true)
 }
 
 /// The step that a segment names, None for a descendant segment, and for one with no selector or

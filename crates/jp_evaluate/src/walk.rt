@@ -49,7 +49,7 @@ impl<'d, V: Selectable + 'd> Reached<'d, V> {
 
 /// A value at which a segment chooses: by which turn, and the position of the next of its choices.
 #[derive(Clone, Copy)]
-pub(crate) struct Frame<'d, V> {
+pub struct Frame<'d, V> {
     reached: Reached<'d, V>,
     turn: usize,
     next: usize,
@@ -85,11 +85,29 @@ impl<'d, V: Selectable + 'd> Walk<'d, V> {
         ensures first { result.first ≡ Some value }
         ensures frames { walk_frames result ≡ [] }
     {
+        Walk::within(Vec::new(alloc), value)
+    }
+
+    /// The same in the memory of other frames.
+    pub(crate) fn within(mut frames: Vec<Frame<'d, V>>, value: V) -> Walk<'d, V>
+        ensures first { result.first ≡ Some value }
+        ensures frames { walk_frames result ≡ [] }
+    {
+        frames.clear();
         Walk {
             first: Some(value),
             top: None,
-            below: Vec::new(alloc),
+            below: frames,
         }
+    }
+
+    /// The memory of its frames, with none in it.
+    pub(crate) fn into_frames(self) -> Vec<Frame<'d, V>>
+        ensures { result.items ≡ [] }
+    {
+        let Walk { mut below, .. } = self;
+        below.clear();
+        below
     }
 
     /// The next value that segments reach, None at the end. After an error nothing is said of what

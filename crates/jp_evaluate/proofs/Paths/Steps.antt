@@ -162,10 +162,10 @@ pub location-names : (q : QueryTree) (l : Location) → location_named q ≡ Som
 location-names (query absolute all) l is d =
     ap (λ n. result all d (n ∷ [])) (sym (root_starts absolute d)) ∙ lead all [] l d is
 
-pub named_if : {X : Type 0} (o : Option X) (at : X → Location) (q : QueryTree)
-    → option_map at o ≡ location_named q → IfSome o (λ x. NamesLocation q (at x))
-named_if None at q is = tt
-named_if (Some x) at q is = location-names q (at x) (sym is)
+pub named_if : (is_named : Bool) (l : Location) (q : QueryTree)
+    → (if is_named then Some l else None) ≡ location_named q → is_named ≡ true → NamesLocation q l
+named_if true l q is same = location-names q l (sym is)
+named_if false l q is same = absurd (cc)
 
 -- ---- the steps of a query, one segment after another
 

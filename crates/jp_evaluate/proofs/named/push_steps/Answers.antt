@@ -3,7 +3,7 @@ use Rattle.std.proofs.lemmas.List.{drop_more, map-append}
 use Rattle.jp_document.specs.Location.{step_of}
 use Rattle.jp_tree.specs.Views.{query_of}
 use Rattle.jp_evaluate.proofs.Paths.Steps.{Continues, continues-next}
-use Rattle.jp_evaluate.proofs.named.location_of_steps.Goals as goal
+use Rattle.jp_evaluate.proofs.named.push_steps.Goals as goal
 
 pub loop-segment-preserved : goal.loop-segment-preserved
 loop-segment-preserved c =

@@ -2,7 +2,7 @@ use Rattle.std.proofs.Common.{drop, map}
 use Rattle.jp_document.specs.Location.{step_of}
 use Rattle.jp_tree.specs.Views.{query_of}
 use Rattle.jp_evaluate.proofs.Paths.Steps.{Continues}
-use Rattle.jp_evaluate.proofs.named.location_of_steps.Given as goal
+use Rattle.jp_evaluate.proofs.named.push_steps.Given as goal
 
 -- the steps so far go on with those of the segments to come
 abbrev pub invariant-loop-segment : goal.invariant-loop-segment
