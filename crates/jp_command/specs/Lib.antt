@@ -7,6 +7,7 @@ pub mod Writes
 pub mod CommandLine
 pub mod Lines
 pub mod Run
+pub mod Selecting
 pub mod QueryLine
 pub mod Canon
 pub mod Check

@@ -1,18 +1,20 @@
 //! What is written of the node that was found at a location.
 
-ghost use Rattle.std.specs.Prelude.{◌≡◌, IfErr, IfOk, OnOk, string_bytes};
+ghost use Rattle.std.specs.Prelude.{◌≡◌, ◌++◌, IfErr, IfOk, OnOk, map, string_bytes};
 ghost use Rattle.std.specs.List.{flat_map};
 ghost use Rattle.jp_command.specs.Found.{found_nodes};
-ghost use Rattle.jp_command.specs.Lines.{line_behind, lines_of};
+ghost use Rattle.jp_command.specs.Lines.{line_behind, line_of, lines_of};
+ghost use Rattle.jp_document.specs.Location.{step_of};
+ghost use Rattle.jp_document.specs.Node.{node_at};
 ghost use Rattle.jp_command.specs.Output.{StopsWriting, WritesAll};
 ghost use Rattle.jp_command.specs.Writes.{GoesAs};
 
 use crate::device::Writer;
 use crate::fault::Fault;
 use crate::front::Front;
-use crate::lines::{Form, push_line};
+use crate::lines::{Form, push_after_path, push_line};
 use crate::output::write_all;
-use jp_document::Step;
+use jp_document::{Step, push_path};
 use jp_lent::Selectable;
 use std::alloc::{AllocError, Global};
 
@@ -31,11 +33,44 @@ pub fn lines_at<'d, V: Selectable>(
         ≡ lines_of form (found_nodes V.meaning location.now value)) }
 {
     let mut lines = String::new(alloc);
-    if let Some(value) = value {
+    if value.is_some() {
         lines.reserve(SHORT_LINE)?;
-        push_line(form, &mut Front::new(alloc), location, value, &mut lines)?;
     }
+    push_found(form, location, value, &mut lines)?;
     Ok(lines)
+}
+
+/// Appends that line. The only error is that memory ran out.
+pub fn push_found<'d, V: Selectable>(
+    form: Form,
+    location: &[Step<'d>],
+    value: Option<V>,
+    lines: &mut String,
+) -> Result<(), AllocError>
+    ensures { OnOk result (string_bytes lines.new
+        ≡ string_bytes lines.old ++ lines_of form (found_nodes V.meaning location.now value)) }
+{
+    match value {
+        Some(value) => push_line_at(form, location, value, lines),
+        None => Ok(()),
+    }
+}
+
+/// Appends the line of the node at this location with this value.
+fn push_line_at<'d, V: Selectable>(
+    form: Form,
+    location: &[Step<'d>],
+    value: V,
+    line: &mut String,
+) -> Result<(), AllocError>
+    ensures { OnOk result (string_bytes line.new
+        ≡ string_bytes line.old ++ line_of form (node_at (map step_of location.now) (V.meaning value))) }
+{
+    match form {
+        Form::Values => {}
+        Form::Paths | Form::Both => push_path(line, location)?,
+    }
+    push_after_path(form, value, line)
 }
 
 /// Writes that line, behind the text `lead`; it is made in `line`, and what that held is gone then.

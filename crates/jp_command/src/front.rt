@@ -21,10 +21,16 @@ impl<'d> Front<'d> {
     pub(crate) fn new(alloc: Global) -> Front<'d>
         ensures { HasPathText result }
     {
-        Front {
-            steps: Vec::new(alloc),
-            text: String::new(alloc),
-        }
+        Front::within(Vec::new(alloc), String::new(alloc))
+    }
+
+    /// No steps, in the memory of others.
+    pub(crate) fn within(mut steps: Vec<Step<'d>>, mut text: String) -> Front<'d>
+        ensures { HasPathText result }
+    {
+        steps.clear();
+        text.clear();
+        Front { steps, text }
     }
 
     /// Appends the normalized path of a location, and keeps all its steps but the last, where that

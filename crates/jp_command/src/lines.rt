@@ -6,7 +6,7 @@ ghost use Rattle.jp_command.specs.Lines.{line_behind, line_of, output_behind};
 ghost use Rattle.jp_command.specs.Output.{StopsWriting, WritesAll};
 ghost use Rattle.jp_command.specs.Writes.{GoesAs};
 ghost use Rattle.jp_command.specs.Private.AsFound.{WritesAsFound};
-ghost use Rattle.jp_command.specs.Private.Fronts.{HasPathText};
+ghost use Rattle.jp_command.specs.Private.Fronts.{HasPathText, text_after_path};
 ghost use Rattle.jp_command.specs.Private.Shown.{GivesShown};
 ghost use Rattle.jp_evaluate.specs.Lent.{has_failed, rest_of, steps_of};
 ghost use Rattle.jp_evaluate.specs.Stopping.{StopsSpent};
@@ -19,6 +19,7 @@ use crate::device::Writer;
 use crate::fault::Fault;
 use crate::front::Front;
 use crate::output::write_all;
+use crate::selecting::push_rest;
 use jp_check::Checked;
 use jp_document::Step;
 use jp_evaluate::{EvaluationFault, LentNodes, Patterns, lent_nodes_with};
@@ -54,10 +55,25 @@ pub(crate) fn push_line<'d, V: Selectable>(
         ++ line_of form (node_at (map step_of location.now) (V.meaning value))) }
 {
     match form {
+        Form::Values => {}
+        Form::Paths | Form::Both => front.push_path(location, line)?,
+    }
+    push_after_path(form, value, line)
+}
+
+/// Appends what the line of a node with this value has behind the path.
+pub(crate) fn push_after_path<V: Selectable>(
+    form: Form,
+    value: V,
+    line: &mut String,
+) -> Result<(), AllocError>
+    ensures { OnOk result (string_bytes line.new
+        ≡ string_bytes line.old ++ text_after_path form (V.meaning value)) }
+{
+    match form {
         Form::Values => push_value(line, value)?,
-        Form::Paths => front.push_path(location, line)?,
+        Form::Paths => {}
         Form::Both => {
-            front.push_path(location, line)?;
             line.push('\t')?;
             push_value(line, value)?;
         }
@@ -85,34 +101,21 @@ pub fn selected_lines<'d: 'q, 'q, V: Selectable + 'd>(
 {
     let read = mem::replace(patterns, Patterns::new(alloc));
     let mut nodes = lent_nodes_with(alloc, root, query, &Marks, read, *steps);
-    let lines = lines_of_rest(alloc, form, lead, &mut nodes);
+    let mut lines = String::new(alloc);
+    let (mut location, mut front) = (Vec::new(alloc), Front::new(alloc));
+    let pushed = push_rest(
+        form,
+        lead,
+        None,
+        &mut nodes,
+        &mut location,
+        &mut front,
+        &mut lines,
+    );
     let (read, left) = nodes.into_parts();
     *patterns = read;
     *steps = left;
-    lines
-}
-
-/// The lines of the nodes that are still to come.
-fn lines_of_rest<'d: 'q, 'q, V: Selectable + 'd>(
-    alloc: Global,
-    form: Form,
-    lead: &str,
-    nodes: &mut LentNodes<'d, 'q, V, Marks>,
-) -> Result<String, EvaluationFault>
-    requires { has_failed nodes.now ≡ false }
-    ensures lines { IfOk result (λ lines. string_bytes lines
-        ≡ flat_map (line_behind lead.now form) (rest_of V.meaning nodes.old)) }
-    ensures takes { Takes (steps_of nodes.old) (steps_of nodes.new) }
-    ensures stopped { StopsSpent result (steps_of nodes.new) }
-{
-    let mut location = Vec::new(alloc);
-    let mut front = Front::new(alloc);
-    let mut lines = String::new(alloc);
-    while let Some(next) = next_shown(form, nodes, &mut location) {
-        let value = next?;
-        lines.push_str(lead)?;
-        push_line(form, &mut front, &location, value, &mut lines)?;
-    }
+    pushed?;
     Ok(lines)
 }
 
@@ -198,7 +201,7 @@ pub(crate) fn write_lines<'d: 'q, 'q, V: Selectable + 'd, W: Writer>(
 }
 
 /// The next node: its value, and in `location` the steps to it, where the form shows them.
-fn next_shown<'d: 'q, 'q, V: Selectable + 'd>(
+pub(crate) fn next_shown<'d: 'q, 'q, V: Selectable + 'd>(
     form: Form,
     nodes: &mut LentNodes<'d, 'q, V, Marks>,
     location: &mut Vec<Step<'d>>,

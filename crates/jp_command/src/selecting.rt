@@ -1,0 +1,119 @@
+//! Lines of selected nodes behind a text, in memory that goes from one document to the next.
+
+ghost use Rattle.std.specs.Prelude.{◌≡◌, ◌-◌, ◌++◌, OnOk, [], false, option_map, string_bytes};
+ghost use Rattle.std.specs.List.{flat_map};
+ghost use Rattle.jp_command.specs.Lines.{line_behind, lines_of};
+ghost use Rattle.jp_command.specs.Selecting.{first_nodes};
+ghost use Rattle.jp_command.specs.Private.Fronts.{HasPathText};
+ghost use Rattle.jp_evaluate.specs.Lent.{has_failed, rest_of, steps_of};
+ghost use Rattle.jp_evaluate.specs.Nodelist.{nodelist};
+ghost use Rattle.jp_evaluate.specs.Stopping.{StopsSpent};
+ghost use Rattle.jp_select.specs.Steps.{Takes};
+ghost use Rattle.jp_tree.specs.Views.{query_of};
+
+use crate::front::Front;
+use crate::lines::{Form, next_shown, push_line};
+use jp_check::Checked;
+use jp_document::Step;
+use jp_evaluate::{EvaluationFault, Frame, LentNodes, Patterns, lent_nodes_in};
+use jp_lent::Selectable;
+use jp_match::Marks;
+use jp_select::Steps;
+use std::alloc::Global;
+use std::mem;
+
+/// Memory that goes from the nodes of one document to those of the next. What its lists and its text hold
+/// is gone with the next nodes.
+#[derive(Drop)]
+pub struct Rooms<'d, V> {
+    /// What was read of the patterns.
+    pub patterns: Patterns,
+    /// The frames of the walk.
+    pub frames: Vec<Frame<'d, V>>,
+    /// The steps to a node.
+    pub location: Vec<Step<'d>>,
+    /// The steps that paths begin with.
+    pub front: Vec<Step<'d>>,
+    /// How paths spell these.
+    pub path: String,
+}
+
+/// Appends the lines of the nodes that the query selects in the document whose value is the root, in the
+/// nodelist's order (RFC 9535 section 2.1.2): of all, or of as many as `most` says, with which the
+/// evaluation stops. The evaluation takes from `steps` those that it makes. The errors are that memory ran
+/// out and that the steps are used up; after both nothing is said of what was appended.
+pub fn push_selected<'d: 'q, 'q, V: Selectable + 'd>(
+    alloc: Global,
+    form: Form,
+    most: Option<u64>,
+    root: V,
+    query: &'q Checked,
+    rooms: &mut Rooms<'d, V>,
+    steps: &mut Steps,
+    lines: &mut String,
+) -> Result<(), EvaluationFault>
+    ensures lines { OnOk result (string_bytes lines.new ≡ string_bytes lines.old
+        ++ lines_of form (first_nodes most (nodelist (query_of query.now.query) (V.meaning root)))) }
+    ensures takes { Takes steps.old steps.new }
+    ensures stopped { StopsSpent result steps.new }
+{
+    let patterns = mem::replace(&mut rooms.patterns, Patterns::new(alloc));
+    let frames = mem::replace(&mut rooms.frames, Vec::new(alloc));
+    let mut nodes = lent_nodes_in(alloc, root, query, &Marks, patterns, frames, *steps);
+    let front = mem::replace(&mut rooms.front, Vec::new(alloc));
+    let path = mem::replace(&mut rooms.path, String::new(alloc));
+    let mut front = Front::within(front, path);
+    let pushed = push_rest(
+        form,
+        "",
+        most,
+        &mut nodes,
+        &mut rooms.location,
+        &mut front,
+        lines,
+    );
+    rooms.front = front.steps;
+    rooms.path = front.text;
+    (rooms.patterns, *steps, rooms.frames) = nodes.into_rooms();
+    pushed
+}
+
+/// Appends the lines of the nodes that are still to come, of all or of so many, each behind the text `lead`.
+pub(crate) fn push_rest<'d: 'q, 'q, V: Selectable + 'd>(
+    form: Form,
+    lead: &str,
+    most: Option<u64>,
+    nodes: &mut LentNodes<'d, 'q, V, Marks>,
+    location: &mut Vec<Step<'d>>,
+    front: &mut Front<'d>,
+    lines: &mut String,
+) -> Result<(), EvaluationFault>
+    requires working { has_failed nodes.now ≡ false }
+    requires front { HasPathText front.now }
+    ensures lines { OnOk result (string_bytes lines.new ≡ string_bytes lines.old
+        ++ flat_map (line_behind lead.now form) (first_nodes most (rest_of V.meaning nodes.old))) }
+    ensures takes { Takes (steps_of nodes.old) (steps_of nodes.new) }
+    ensures stopped { StopsSpent result (steps_of nodes.new) }
+{
+    let mut left = most;
+    while left != Some(0) {
+        let Some(next) = next_shown(form, nodes, location) else {
+            return Ok(());
+        };
+        let value = next?;
+        lines.push_str(lead)?;
+        push_line(form, front, location, value, lines)?;
+        left = one_less(left);
+    }
+    Ok(())
+}
+
+/// How many are left of so many, or of all, after one.
+fn one_less(left: Option<u64>) -> Option<u64>
+    ensures { result ≡ option_map (λ n. n - 1) left }
+{
+    match left {
+        Some(count) => Some(count.saturating_sub(1)),
+        None => None,
+    }
+}
