@@ -1,7 +1,9 @@
 /* Measures the CPU time of a call over a document of about 1 KB, against libjq where it is:
  * `library [libjq.so.1]`, as bench/library runs it. A row: the query, microseconds a call of jp_eval (the query not read before), and
  * of libjq, its program compiled before, with parsing the document and printing what comes. Then ten queries
- * over the one document: by ten calls of jp_eval, by one of jp_eval_many, and by ten of jp_select. */
+ * over the one document: by ten calls of jp_eval, by one of jp_eval_many, and by ten of jp_select. Then queries
+ * that are short and long over documents of about 100 and 900 bytes: by jp_eval, and by jp_ask, with the query
+ * kept. */
 #define _POSIX_C_SOURCE 200809L
 #include "jp.h"
 
@@ -46,15 +48,15 @@ static void make_document(void) {
     sprintf(document + at, "],\"bicycle\":{\"color\":\"red\",\"price\":399}}}");
 }
 
-static double measure_jp(const char *query) {
+static double measure_jp(const char *query, const char *bytes) {
     uint8_t out[4096];
     struct jp_report report;
     double best = 1e9;
     for (int round = 0; round < 5; round += 1) {
         double start = seconds();
         for (int call = 0; call < 2000; call += 1) {
-            jp_eval((const uint8_t *)query, strlen(query), (const uint8_t *)document, strlen(document), JP_VALUES,
-                    JP_STANDARD, JP_NO_LIMIT, out, sizeof out, &report);
+            jp_eval((const uint8_t *)query, strlen(query), (const uint8_t *)bytes, strlen(bytes), JP_VALUES, JP_STANDARD,
+                    JP_NO_LIMIT, out, sizeof out, &report);
         }
         double took = (seconds() - start) / 2000;
         best = took < best ? took : best;
@@ -146,6 +148,49 @@ static void measure_ten(void) {
     }
 }
 
+static const char small[] = "{\"id\":17,\"user\":{\"name\":\"Ada\",\"age\":36},\"tags\":[\"x\",\"y\"],\"price\":8,"
+                            "\"deep\":{\"a\":{\"b\":[1,{\"c\":2}]}}}";
+
+/* A query, and whether it is asked of the small document or of the other. */
+static const struct {
+    const char *query;
+    int is_small;
+} asked[] = {
+    {"$.user.name", 1},
+    {"$..c", 1},
+    {"$.deep..[?@.c==2 || @.c==3 && !@.d || length(@.e)>3].c", 1},
+    {"$.store.book[0].title", 0},
+    {"$..price", 0},
+    {"$.store.book[?@.price<10 && @.category=='fiction' || @.author=='Author 8' && !@.sold].title", 0},
+};
+
+static double measure_ask(const char *query, const char *bytes) {
+    struct jp_handle kept = JP_EMPTY;
+    struct jp_report report;
+    struct jp_text text;
+    double best = 1e9;
+    jp_query_new((const uint8_t *)query, strlen(query), JP_STANDARD, &kept, &report);
+    for (int round = 0; round < 5; round += 1) {
+        double start = seconds();
+        for (int call = 0; call < 2000; call += 1) {
+            jp_ask(&kept, (const uint8_t *)bytes, strlen(bytes), JP_VALUES, JP_ALL, JP_NO_LIMIT, &text, &report);
+        }
+        double took = (seconds() - start) / 2000;
+        best = took < best ? took : best;
+    }
+    jp_clear(&kept);
+    return report.status == JP_DONE && report.length > 0 ? best : -1;
+}
+
+static void measure_asked(void) {
+    for (size_t row = 0; row < sizeof asked / sizeof asked[0]; row += 1) {
+        const char *bytes = asked[row].is_small ? small : document;
+        double eval = measure_jp(asked[row].query, bytes), ask = measure_ask(asked[row].query, bytes);
+        printf("%zu bytes\t%s\tjp_eval %.2f\tjp_ask %.2f\tratio %.2f\n", strlen(bytes), asked[row].query, 1e6 * eval,
+               1e6 * ask, ask / eval);
+    }
+}
+
 struct jq_calls {
     void *(*init)(void);
     int (*compile)(void *, const char *);
@@ -196,12 +241,13 @@ int main(int count, char **words) {
     make_document();
     printf("%zu bytes\n", strlen(document));
     for (size_t row = 0; row < sizeof queries / sizeof queries[0]; row += 1) {
-        printf("%s\t%.1f", queries[row][0], 1e6 * measure_jp(queries[row][0]));
+        printf("%s\t%.1f", queries[row][0], 1e6 * measure_jp(queries[row][0], document));
         if (library != NULL) {
             printf("\t%.1f", 1e6 * measure_jq(&calls, queries[row][1]));
         }
         printf("\n");
     }
     measure_ten();
+    measure_asked();
     return 0;
 }

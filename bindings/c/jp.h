@@ -194,7 +194,7 @@ uint32_t jp_kind_name(uint32_t status, uint32_t kind,
  * What the caller owes of a handle, beside what it owes of each pointer:
  * - It is JP_EMPTY, or all bytes 0, before its first call, and no one but these calls changes it.
  * - It may be moved, but of two copies only one is used from then on.
- * - No two calls use it at once, and the two handles of jp_select are not the same.
+ * - No two calls use it at once, and the two handles of one call are not the same.
  * - jp_clear frees what it keeps; nothing else does when it is forgotten. */
 struct jp_handle {
     void *at;
@@ -222,6 +222,31 @@ uint32_t jp_document_new(const uint8_t *document, size_t document_length,
  * keep them. */
 uint32_t jp_select(struct jp_handle *query, struct jp_handle *document, uint32_t form, uint64_t limit,
                    uint8_t *out, size_t out_length, struct jp_report *report);
+
+/* A text that a handle lends. It may be read, and not written, until the next call with that handle. Where
+ * the length is 0 there is nothing at `start`. */
+struct jp_text {
+    const uint8_t *start;
+    size_t length;
+};
+
+/* All nodes, where a call is told how many are asked for. */
+#define JP_ALL 0
+
+/* Asks the query that the handle keeps of a document. The text, which the handle lends, is what jp_eval
+ * writes: of all nodes, or of as many as `count` says, from the first on, with which the evaluation stops. So
+ * a count of 1 asks for the first node, and whether there is one: without one there is no text. Where a
+ * document is refused for a number that is not whole, its path is lent. The handle keeps the memory that a
+ * call takes, so that the next takes none where it needs no more. */
+uint32_t jp_ask(struct jp_handle *query, const uint8_t *document, size_t document_length,
+                uint32_t form, uint64_t count, uint64_t limit,
+                struct jp_text *text, struct jp_report *report);
+
+/* The same of the document that another handle keeps. Both keep what they keep; the text is lent by the
+ * query's. */
+uint32_t jp_ask_document(struct jp_handle *query, struct jp_handle *document,
+                         uint32_t form, uint64_t count, uint64_t limit,
+                         struct jp_text *text, struct jp_report *report);
 
 /* Frees what the handle keeps, if anything. It then keeps nothing, and may be filled or cleared again.
  * Where the thread's stack has too little left for it, nothing is done, and `full` is not 0 still. */

@@ -1,3 +1,4 @@
+mod Asking
 mod CopiedFaults
 mod HeldValues
 mod Explaining

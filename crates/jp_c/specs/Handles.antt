@@ -26,7 +26,7 @@ kept_by h = h.held.value
 
 -- the query that is kept, if one is
 abbrev pub query_kept : Option Kept → Option QueryTree
-query_kept (Some (kept.Query c)) = Some (query_of c.query)
+query_kept (Some (kept.Query a)) = Some (query_of a.query.query)
 query_kept _ = None
 
 -- the document that is kept, if one is

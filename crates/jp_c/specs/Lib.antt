@@ -1,4 +1,5 @@
 pub mod Asked
+pub mod Asking
 pub mod Calls
 pub mod Explained
 pub mod Handles

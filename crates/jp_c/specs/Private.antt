@@ -1,3 +1,4 @@
+pub mod Askers
 pub mod Placing
 pub mod Spending
 pub mod Subjects

@@ -15,13 +15,18 @@
 #![tactic(auto)]
 
 mod asked;
+mod asker;
+mod asking;
+mod emptied;
 mod explained;
 mod exports;
 mod handle;
 mod held;
 mod kept;
+mod lent;
 mod limit;
 mod many;
+mod memory;
 mod misread;
 mod names;
 mod numbers;
@@ -31,11 +36,13 @@ mod select;
 #[cfg(test)]
 mod tests;
 
+pub use asking::{jp_ask, jp_ask_document};
 pub use explained::{Part, jp_explain};
 pub use exports::{VERSION, jp_canon, jp_check, jp_eval, jp_version};
 pub use handle::Handle;
 pub use held::Held;
-pub use kept::Kept;
+pub use kept::{Asker, Kept};
+pub use lent::Lent;
 pub use many::{Question, jp_eval_many};
 pub use misread::{DocumentPart, Place, jp_explain_document};
 pub use names::jp_kind_name;

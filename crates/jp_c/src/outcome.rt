@@ -1,5 +1,5 @@
 //! What a call answers, and how it is told to C.
-ghost use Rattle.std.specs.Prelude.{◌≡◌, MatchResult};
+ghost use Rattle.std.specs.Prelude.{◌≡◌, MatchResult, string_bytes};
 ghost use Rattle.jp_c.specs.Limit.{MakesSteps};
 ghost use Rattle.jp_c.specs.Outcome.{ReportsOutcome, filled, report_of, told_text};
 ghost use Rattle.jp_c.specs.Private.Spending.{Spends, steps_of_limit};
@@ -63,8 +63,23 @@ impl Outcome {
         }
     }
 
+    /// The same to keep; the memory of another text serves where there is none.
+    pub(crate) fn into_text(self, mut spare: String) -> String
+        ensures { string_bytes result ≡ told_text self }
+    {
+        match self {
+            Outcome::Text(text) => text,
+            Outcome::Fault(FindFault::Document(DocumentFault::NotWhole(path))) => path,
+            Outcome::Misread(DocumentFault::NotWhole(path), _) => path,
+            Outcome::Usage | Outcome::Fault(_) | Outcome::Misread(_, _) => {
+                spare.clear();
+                spare
+            }
+        }
+    }
+
     /// The outcome in numbers, for which so many steps were made.
-    fn report(&self, steps: u64) -> Report
+    pub(crate) fn report(&self, steps: u64) -> Report
         ensures { result ≡ report_of self.now steps }
     {
         let length = self.text().len();

@@ -12,7 +12,7 @@ ghost use Rattle.jp_document.specs.Value.{Value};
 
 use crate::asked::{asked, lines, read_document};
 use crate::handle::Handle;
-use crate::kept::Kept;
+use crate::kept::{Asker, Kept};
 use crate::limit::steps_within;
 use crate::numbers::{form, profile};
 use crate::outcome::{Answered, Outcome, Report, tell};
@@ -59,7 +59,7 @@ fn kept_query(alloc: Global, query: &[u8], profile: Profile) -> Result<Handle, F
     ensures fault { IfErr result (IsQueryFault profile query.now) }
 {
     let query = asked(alloc, query, profile)?;
-    Ok(Handle::keep(alloc, Kept::Query(query))?)
+    Ok(Handle::keep(alloc, Kept::Query(Asker::new(alloc, query)))?)
 }
 
 /// Keeps the document in place of what the handle kept; where it is refused the handle keeps nothing,
@@ -145,11 +145,11 @@ fn select_outcome(
     let (Some(query), Some(document)) = (query, document) else {
         return Answered::at_once(Outcome::Usage);
     };
-    let (Kept::Query(query), Kept::Document(document)) = (&**query, &**document) else {
+    let (Kept::Query(asker), Kept::Document(document)) = (&**query, &**document) else {
         return Answered::at_once(Outcome::Usage);
     };
     let mut steps = steps_within(limit);
-    let answer = lines(alloc, form, document.value(), query, &mut steps);
+    let answer = lines(alloc, form, document.value(), &asker.query, &mut steps);
     Answered::within(limit, steps, answer)
 }
 

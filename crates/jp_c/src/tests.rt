@@ -1,4 +1,6 @@
 //! The calls as C makes them, with values by hand.
+mod asking;
+
 use crate::{
     Handle, Place, Question, Report, jp_canon, jp_check, jp_clear, jp_document_new, jp_eval,
     jp_eval_many, jp_explain, jp_explain_document, jp_kind_name, jp_query_new, jp_select,

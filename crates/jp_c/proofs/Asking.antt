@@ -1,0 +1,81 @@
+-- What is told of an answer is an outcome of what was asked.
+use Rattle.std.proofs.Common.{◌≡◌, ◌⊎◌, ℕ, List, IfErr, MatchResult, None, Ok, OnOk, Err, Option, Result, Some}
+use Rattle.std.proofs.Common.{String, inl, inr, string_bytes, subst, sym}
+use Rattle.std.specs.declared.alloc.Global.{Global}
+use Rattle.jp_command.specs.declared.lines.Form.{Form}
+use Rattle.jp_document.specs.Document.{IsDocument}
+use Rattle.jp_document.specs.Value.{Value}
+use Rattle.jp_tree.specs.Tree.{QueryTree}
+use Rattle.jsonpath.specs.Size.{Fits}
+use Rattle.jsonpath.specs.declared.fault.FindFault.{FindFault}
+use Rattle.jsonpath.specs.declared.fault.FindFault.TheVariants.{Query, Document, DocumentTooLarge}
+use Rattle.jsonpath.specs.declared.fault.FindFault.TheVariants.{NoMemory, StepsUsedUp}
+use Rattle.jp_c.specs.Asking.{IsAskDocumentOutcome, IsAskOutcome, IsAskedOf, IsNoAnswerOf, answer_of}
+use Rattle.jp_c.specs.Handles.{document_kept}
+use Rattle.jp_c.specs.Private.Askers.{IsValueOutcome}
+use Rattle.jp_c.specs.Private.Placing.{IsPlaced, IsTold}
+use Rattle.jp_c.specs.declared.kept.Kept.{Kept}
+use Rattle.jp_c.specs.declared.outcome.Outcome as outcome
+use Rattle.jp_c.specs.declared.outcome.Outcome.TheVariants.{Text, Usage, Fault, Misread}
+
+module _ (form count : ℕ) (query : Option Kept) (f : Form) (q : QueryTree) (bytes : List ℕ)
+    (is : IsAskedOf form query f q) where
+  told_fault : (fault : FindFault) (p : outcome.Outcome) → IsNoAnswerOf bytes fault
+      → IsTold bytes fault p → IsAskOutcome form count query bytes p
+  told_fault (Document d) p none (inl told) =
+      subst (IsAskOutcome form count query bytes) (sym told.2) (f, q, is, none, told.1)
+  told_fault (Document d) p none (inr told) =
+      subst (IsAskOutcome form count query bytes) (sym told) (f, q, is, tt, tt)
+  told_fault (Query r) p none told = absurd none
+  told_fault DocumentTooLarge p none told =
+      subst (IsAskOutcome form count query bytes) (sym told) (f, q, is, none, tt)
+  told_fault NoMemory p none told =
+      subst (IsAskOutcome form count query bytes) (sym told) (f, q, is, none, tt)
+  told_fault StepsUsedUp p none told =
+      subst (IsAskOutcome form count query bytes) (sym told) (f, q, is, none, tt)
+
+  pub told_of_bytes : (text : String Global) (answer : Result (Unit {0}) FindFault)
+      (o p : outcome.Outcome)
+      → MatchResult answer (λ _. o ≡ Text text) (λ fault. o ≡ Fault fault)
+      → OnOk answer ((d : Value) × IsDocument bytes d × Fits bytes
+      × (string_bytes text ≡ answer_of count f q d))
+      → IfErr answer (IsNoAnswerOf bytes) → IsPlaced bytes o p → IsAskOutcome form count query bytes p
+  told_of_bytes text (Ok u) o p same here none placed =
+      subst (IsAskOutcome form count query bytes) (sym (subst (λ x. IsPlaced bytes x p) same placed))
+      (f, q, here.0, is, here.1)
+  told_of_bytes text (Err fault) o p same here none placed =
+      told_fault fault p none (subst (λ x. IsPlaced bytes x p) same placed)
+
+pub told_of_value : (form count : ℕ) (query : Option Kept) (f : Form) (q : QueryTree)
+    (text : String Global) (answer : Result (Unit {0}) FindFault) (o : outcome.Outcome) (d : Value)
+    → IsAskedOf form query f q
+    → MatchResult answer (λ _. o ≡ Text text) (λ fault. o ≡ Fault fault)
+    → OnOk answer (string_bytes text ≡ answer_of count f q d)
+    → IfErr answer (λ fault. (fault ≡ NoMemory) ⊎ (fault ≡ StepsUsedUp))
+    → IsValueOutcome form count query d o
+told_of_value form count query f q text (Ok u) o d is same here none =
+    subst (IsValueOutcome form count query d) (sym same) (f, q, is, here)
+told_of_value form count query f q text (Err fault) o d is same here none =
+    subst (IsValueOutcome form count query d) (sym same) (f, q, is, none)
+
+-- what is asked of a document is asked of what keeps it
+pub asked_of_document : (form count : ℕ) (query document : Option Kept) (d : Value)
+    (o : outcome.Outcome) → document_kept document ≡ Some d → IsValueOutcome form count query d o
+    → IsAskDocumentOutcome form count query document o
+asked_of_document form count query document d (Text text) there is = (
+  is.0,
+  is.1,
+  d,
+  record { form_is = is.2.form_is; query_is = is.2.query_is; document_is = there },
+  is.3,
+)
+asked_of_document form count query document d Usage there (inl none) = inl none
+asked_of_document form count query document d Usage there (inr none) = inr (inl none)
+asked_of_document form count query document d (Misread fault place) there is = absurd is
+asked_of_document form count query document d (Fault fault) there is = (
+  is.0,
+  is.1,
+  d,
+  record { form_is = is.2.form_is; query_is = is.2.query_is; document_is = there },
+  is.3,
+)

@@ -1,0 +1,96 @@
+-- What is asked with a query that is kept, and how the answer is lent.
+use Rattle.std.specs.Prelude.{◌≡◌, ◌==◌, ◌⊎◌, ℕ, if◌then◌else◌, List, [], Option, None, Some, String, length}
+use Rattle.std.specs.Prelude.{string_bytes}
+use Rattle.std.specs.String.{string_vec}
+use Rattle.std.specs.Vec.{vec_ptr}
+use Rattle.std.specs.declared.alloc.Global.{Global}
+use Rattle.jp_command.specs.Lines.{lines_of}
+use Rattle.jp_command.specs.Selecting.{first_nodes}
+use Rattle.jp_command.specs.declared.lines.Form.{Form}
+use Rattle.jp_document.specs.Document.{IsDocument}
+use Rattle.jp_document.specs.Value.{Value}
+use Rattle.jp_evaluate.specs.Nodelist.{nodelist}
+use Rattle.jp_tree.specs.Tree.{QueryTree}
+use Rattle.jsonpath.specs.Size.{Fits}
+use Rattle.jsonpath.specs.declared.fault.FindFault.{FindFault}
+use Rattle.jsonpath.specs.declared.fault.FindFault.TheVariants as find
+use Rattle.jp_c.specs.Asked.{IsNoDocument}
+use Rattle.jp_c.specs.Calls.{IsPlaceless}
+use Rattle.jp_c.specs.Handles.{IsSelected, query_kept, document_kept}
+use Rattle.jp_c.specs.Misread.{IsMisreadAt}
+use Rattle.jp_c.specs.Numbers.{form_of}
+use Rattle.jp_c.specs.Outcome.{report_of, status_of, told_text}
+use Rattle.jp_c.specs.declared.kept.Kept.{Kept}
+use Rattle.jp_c.specs.declared.kept.Kept.TheVariants as kept
+use Rattle.jp_c.specs.declared.lent.Lent.{Lent}
+use Rattle.jp_c.specs.declared.outcome.Outcome as outcome
+use Rattle.jp_c.specs.declared.outcome.Outcome.TheVariants.{Text, Usage, Fault, Misread}
+use Rattle.jp_c.specs.declared.outcome.Report.{Report}
+
+-- how many nodes are asked for at most: of 0 all
+abbrev pub most_of : ℕ → Option ℕ
+most_of count = if count == 0 then None else Some count
+
+-- the lines, in that form, of the first nodes that the query selects in the document
+abbrev pub answer_of : ℕ → Form → QueryTree → Value → List ℕ
+answer_of count f q d = lines_of f (first_nodes (most_of count) (nodelist q d))
+
+-- a form has that number, and the handle keeps a query
+pub record IsAskedOf (form : ℕ) (query : Option Kept) (f : Form) (q : QueryTree) : Type 0 where
+  pub form_is : form_of form ≡ Some f
+  pub query_is : query_kept query ≡ Some q
+
+-- why there is no answer of these bytes: they are no document; or they are one, and more steps are
+-- needed than are allowed
+abbrev pub IsNoAnswerOf : List ℕ → FindFault → Type 0
+IsNoAnswerOf bytes find.StepsUsedUp = ((d : Value) × IsDocument bytes d) × Fits bytes
+IsNoAnswerOf bytes fault = IsNoDocument bytes fault
+
+-- of `jp_ask`: the lines of the first nodes that the query kept by the handle selects in the document that
+-- the bytes are; or no form has that number, or the handle keeps no query; or why there is no answer, with the
+-- place of a document that is refused
+abbrev pub IsAskOutcome : ℕ → ℕ → Option Kept → List ℕ → outcome.Outcome → Type 0
+IsAskOutcome form count query bytes (Text text) =
+    (f : Form) × (q : QueryTree) × (d : Value) × IsAskedOf form query f q × IsDocument bytes d
+    × Fits bytes × (string_bytes text ≡ answer_of count f q d)
+IsAskOutcome form count query bytes Usage = (form_of form ≡ None) ⊎ (query_kept query ≡ None)
+IsAskOutcome form count query bytes (Fault fault) =
+    (f : Form) × (q : QueryTree) × IsAskedOf form query f q × IsNoAnswerOf bytes fault
+    × IsPlaceless fault
+IsAskOutcome form count query bytes (Misread fault place) =
+    (f : Form) × (q : QueryTree) × IsAskedOf form query f q × IsNoDocument bytes (find.Document fault)
+    × IsMisreadAt bytes place
+
+-- of `jp_ask_document`: the same of the document that another handle keeps
+abbrev pub IsAskDocumentOutcome : ℕ → ℕ → Option Kept → Option Kept → outcome.Outcome → Type 0
+IsAskDocumentOutcome form count query document (Text text) =
+    (f : Form) × (q : QueryTree) × (d : Value) × IsSelected form query document f q d
+    × (string_bytes text ≡ answer_of count f q d)
+IsAskDocumentOutcome form count query document Usage =
+    (form_of form ≡ None) ⊎ (query_kept query ≡ None) ⊎ (document_kept document ≡ None)
+IsAskDocumentOutcome form count query document (Fault fault) =
+    (f : Form) × (q : QueryTree) × (d : Value) × IsSelected form query document f q d
+    × ((fault ≡ find.NoMemory) ⊎ (fault ≡ find.StepsUsedUp))
+IsAskDocumentOutcome form count query document (Misread fault place) = ⊥
+
+-- the text that is kept with a query, as the answer of the last call
+abbrev pub text_kept : Option Kept → Option (String Global)
+text_kept (Some (kept.Query a)) = Some a.memory.text
+text_kept _ = None
+
+-- the bytes are lent: there are none; or the handle keeps a text of them, whose first byte is there
+pub data Lends (now : Option Kept) (bytes : List ℕ) (lent : Lent) : Type 0 where
+  nothing : bytes ≡ [] → lent.length ≡ 0 → Lends now bytes lent
+  text : (t : String Global) → text_kept now ≡ Some t → string_bytes t ≡ bytes
+      → lent.start ≡ vec_ptr (string_vec t) → lent.length ≡ length bytes → Lends now bytes lent
+
+-- a call has an outcome of that kind, by the steps that are made for it, tells both, and lends the text of
+-- the outcome from what the handle keeps now
+pub record AnswersLent (IsOutcome : outcome.Outcome → ℕ → Type 0) (now : Option Kept) (lent : Lent)
+    (report : Report) (status : ℕ) : Type 0 where
+  pub o : outcome.Outcome
+  pub made : ℕ
+  pub is : IsOutcome o made
+  pub reports : report ≡ report_of o made
+  pub answers : status ≡ status_of o
+  pub lends : Lends now (told_text o) lent

@@ -1,0 +1,62 @@
+-- What is asked with a kept query, and how it is told. The clauses of `Asker` cite it.
+use Rattle.std.specs.Prelude.{◌≡◌, ◌⊎◌, ◌++◌, ℕ, List, None, Option, length}
+use Rattle.std.specs.Prelude.{string_bytes}
+use Rattle.std.specs.String.{string_vec}
+use Rattle.std.specs.Vec.{vec_ptr}
+use Rattle.jp_command.specs.Lines.{lines_of}
+use Rattle.jp_command.specs.declared.lines.Form.{Form}
+use Rattle.jp_document.specs.Document.{IsDocument}
+use Rattle.jp_document.specs.Location.{Location}
+use Rattle.jp_document.specs.Value.{Value}
+use Rattle.jp_evaluate.specs.Named.{NamesLocation, nodes_at}
+use Rattle.jp_flat.specs.FlatValue.{document_in}
+use Rattle.jp_tree.specs.Tree.{QueryTree}
+use Rattle.jsonpath.specs.declared.fault.FindFault.TheVariants as find
+use Rattle.jp_c.specs.Asking.{AnswersLent, IsAskOutcome, IsAskedOf, answer_of}
+use Rattle.jp_c.specs.Handles.{document_kept, query_kept}
+use Rattle.jp_c.specs.Numbers.{form_of}
+use Rattle.jp_c.specs.declared.asking.Given.{Given}
+use Rattle.jp_c.specs.declared.asking.Given.TheVariants as given
+use Rattle.jp_c.specs.declared.kept.Asker.{Asker}
+use Rattle.jp_c.specs.declared.kept.Kept.{Kept}
+use Rattle.jp_c.specs.declared.lent.Lent.{Lent}
+use Rattle.jp_c.specs.declared.outcome.Outcome as outcome
+use Rattle.jp_c.specs.declared.outcome.Outcome.TheVariants.{Text, Usage, Fault, Misread}
+use Rattle.jp_c.specs.declared.outcome.Report.{Report}
+
+-- the query names a location, and behind the text `before` stand the lines of the node there
+pub record AnswersNamed (form : Form) (q : QueryTree) (bytes before after : List ℕ) : Type 0 where
+  pub l : Location
+  pub d : Value
+  pub names : NamesLocation q l
+  pub document : IsDocument bytes d
+  pub lines : after ≡ before ++ lines_of form (nodes_at l d)
+
+-- the text that is kept with the query is lent
+pub record LendsText (a : Asker) (lent : Lent) : Type 0 where
+  pub start : lent.start ≡ vec_ptr (string_vec a.memory.text)
+  pub length : lent.length ≡ length (string_bytes a.memory.text)
+
+-- of a document that was read: the lines of the first nodes that the query kept selects in it
+abbrev pub IsValueOutcome : ℕ → ℕ → Option Kept → Value → outcome.Outcome → Type 0
+IsValueOutcome form count query d (Text text) =
+    (f : Form) × (q : QueryTree) × IsAskedOf form query f q
+    × (string_bytes text ≡ answer_of count f q d)
+IsValueOutcome form count query d Usage = (form_of form ≡ None) ⊎ (query_kept query ≡ None)
+IsValueOutcome form count query d (Fault fault) =
+    (f : Form) × (q : QueryTree) × IsAskedOf form query f q
+    × ((fault ≡ find.NoMemory) ⊎ (fault ≡ find.StepsUsedUp))
+IsValueOutcome form count query d (Misread fault place) = ⊥
+
+-- of what is asked
+abbrev pub IsAskedOutcome : ℕ → ℕ → Given → Option Kept → outcome.Outcome → Type 0
+IsAskedOutcome form count (given.Bytes bytes) query o = IsAskOutcome form count query bytes.now o
+IsAskedOutcome form count (given.Document d) query o =
+    IsValueOutcome form count query (document_in d.now) o
+
+-- what is kept has such an outcome, which is told and lent, and still has its query or its document
+pub record Asks (IsOutcome : Option Kept → outcome.Outcome → ℕ → Type 0) (old new : Option Kept)
+    (lent : Lent) (report : Report) : Type 0 where
+  pub answers : AnswersLent (IsOutcome old) new lent report report.status
+  pub query : query_kept new ≡ query_kept old
+  pub document : document_kept new ≡ document_kept old

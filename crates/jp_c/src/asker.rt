@@ -1,0 +1,265 @@
+//! A kept query that is asked.
+ghost use Rattle.std.specs.Prelude.{◌≡◌, ◌⊎◌, ◌++◌, IfErr, IfOk, IsTrue, MatchResult, OnOk, false, map};
+ghost use Rattle.std.specs.Prelude.{string_bytes};
+ghost use Rattle.jp_c.specs.Asked.{IsNoDocument};
+ghost use Rattle.jp_c.specs.Asking.{IsNoAnswerOf, answer_of, most_of};
+ghost use Rattle.jp_c.specs.Limit.{MakesSteps};
+ghost use Rattle.jp_c.specs.Outcome.{report_of, told_text};
+ghost use Rattle.jp_c.specs.Private.Askers.{AnswersNamed, LendsText};
+ghost use Rattle.jp_c.specs.declared.outcome.Outcome.TheVariants.{Fault, Text};
+ghost use Rattle.jp_c.specs.Private.Spending.{Spends, steps_of_limit};
+ghost use Rattle.jp_command.specs.Lines.{lines_of};
+ghost use Rattle.jp_document.specs.Document.{IsDocument};
+ghost use Rattle.jp_document.specs.Location.{step_of};
+ghost use Rattle.jp_document.specs.Value.{Value};
+ghost use Rattle.jp_evaluate.specs.Named.{nodes_at};
+ghost use Rattle.jp_flat.specs.FlatValue.{lent_flat};
+ghost use Rattle.jp_tree.specs.Views.{query_of};
+ghost use Rattle.jsonpath.specs.Size.{Fits};
+ghost use Rattle.jsonpath.specs.declared.fault.FindFault.TheVariants as find;
+
+use crate::kept::Asker;
+use crate::lent::{Lent, lend};
+use crate::memory::Memory;
+use crate::outcome::{Answered, Report};
+use jp_check::Checked;
+use jp_command::{Form, push_found, push_selected};
+use jp_document::Step;
+use jp_evaluate::name_location;
+use jp_flat::{FlatValue, Found};
+use jp_held::{read_into, read_value_into};
+use jp_select::Steps;
+use jsonpath::{FindFault, check_size};
+use std::alloc::Global;
+use std::mem;
+
+/// How many nodes are asked for at most, where 0 asks for all.
+fn most(count: u64) -> Option<u64>
+    ensures { result ≡ most_of count }
+{
+    match count {
+        0 => None,
+        _ => Some(count),
+    }
+}
+
+impl Asker {
+    /// The query, with no memory yet.
+    pub(crate) fn new(alloc: Global, query: Checked) -> Asker
+        ensures { result.query ≡ query }
+    {
+        Asker {
+            query,
+            memory: Memory::new(alloc),
+        }
+    }
+
+    /// Makes the memory's text the lines of the first nodes in the document that these bytes are.
+    pub(crate) fn ask(
+        &mut self,
+        alloc: Global,
+        form: Form,
+        count: u64,
+        document: &[u8],
+        steps: &mut Steps,
+    ) -> Result<(), FindFault>
+        ensures query { self.new.query ≡ self.old.query }
+        ensures answer { OnOk result ((d : Value) × IsDocument document.now d × Fits document.now
+            × (string_bytes self.new.memory.text
+            ≡ answer_of count form (query_of self.old.query.query) d)) }
+        ensures fault { IfErr result (IsNoAnswerOf document.now) }
+        ensures spends { Spends result steps.old steps.new }
+    {
+        let Asker { query, memory } = self;
+        memory.text.clear();
+        check_size(document)?;
+        if ask_named(alloc, form, query, document, memory)? {
+            return Ok(());
+        }
+        ask_whole(alloc, form, count, query, document, memory, steps)
+    }
+
+    /// The same of a document that was read.
+    pub(crate) fn ask_value(
+        &mut self,
+        alloc: Global,
+        form: Form,
+        count: u64,
+        root: FlatValue<'_, '_>,
+        steps: &mut Steps,
+    ) -> Result<(), FindFault>
+        ensures query { self.new.query ≡ self.old.query }
+        ensures answer { OnOk result (string_bytes self.new.memory.text
+            ≡ answer_of count form (query_of self.old.query.query) (lent_flat root.entry)) }
+        ensures fault { IfErr result (λ fault. (fault ≡ find.NoMemory) ⊎ (fault ≡ find.StepsUsedUp)) }
+        ensures spends { Spends result steps.old steps.new }
+    {
+        let Asker { query, memory } = self;
+        memory.text.clear();
+        walk(alloc, form, count, query, root, memory, steps)
+    }
+
+    /// What is answered, which takes the memory's text, or the text where there is no answer.
+    pub(crate) fn answered(
+        &mut self,
+        alloc: Global,
+        limit: u64,
+        left: Steps,
+        answer: Result<(), FindFault>,
+    ) -> (Answered, String)
+        requires { Spends answer (steps_of_limit limit) left }
+        ensures query { self.new.query ≡ self.old.query }
+        ensures outcome { MatchResult answer (λ _. result.0.outcome ≡ Text self.old.memory.text)
+            (λ fault. result.0.outcome ≡ Fault fault) }
+        ensures makes { MakesSteps limit result.0.outcome result.0.steps }
+    {
+        let text = mem::replace(&mut self.memory.text, String::new(alloc));
+        match answer {
+            Ok(()) => (
+                Answered::within(limit, left, Ok(text)),
+                String::new(alloc),
+            ),
+            Err(fault) => (Answered::within(limit, left, Err(fault)), text),
+        }
+    }
+
+    /// The report of what is answered, and its text, which is kept, as it is lent. The memory of another
+    /// text serves where there is none.
+    pub(crate) fn tell(&mut self, answered: Answered, spare: String) -> (Lent, Report)
+        ensures query { self.new.query ≡ self.old.query }
+        ensures report { result.1 ≡ report_of answered.outcome answered.steps }
+        ensures text { string_bytes self.new.memory.text ≡ told_text answered.outcome }
+        ensures lends { LendsText self.new result.0 }
+    {
+        let report = answered.report();
+        let (text, lent) = lend(answered.outcome.into_text(spare));
+        self.memory.text = text;
+        (lent, report)
+    }
+}
+
+/// Finds the node at the location that the query names while the document is read; whether it names
+/// one.
+fn ask_named(
+    alloc: Global,
+    form: Form,
+    query: &Checked,
+    document: &[u8],
+    memory: &mut Memory,
+) -> Result<bool, FindFault>
+    requires { Fits document.now }
+    ensures named { IfOk result (λ is_named. IsTrue is_named
+        → AnswersNamed form (query_of query.now.query) document.now (string_bytes memory.old.text)
+        (string_bytes memory.new.text)) }
+    ensures other { IfOk result (λ is_named. is_named ≡ false
+        → string_bytes memory.new.text ≡ string_bytes memory.old.text) }
+    ensures fault { IfErr result (IsNoDocument document.now) }
+{
+    let mut location = memory.walking.open_location(alloc)?;
+    let is_named = name_location(query, &mut location)?;
+    let asked = if is_named {
+        ask_at(alloc, form, &location, document, memory)
+    } else {
+        Ok(())
+    };
+    memory.walking.close_location(location);
+    asked?;
+    Ok(is_named)
+}
+
+/// The same where the location is known.
+fn ask_at(
+    alloc: Global,
+    form: Form,
+    location: &[Step<'_>],
+    document: &[u8],
+    memory: &mut Memory,
+) -> Result<(), FindFault>
+    requires { Fits document.now }
+    ensures answer { OnOk result ((d : Value) × IsDocument document.now d
+        × (string_bytes memory.new.text ≡ string_bytes memory.old.text
+        ++ lines_of form (nodes_at (map step_of location.now) d))) }
+    ensures fault { IfErr result (IsNoDocument document.now) }
+{
+    let room = memory.take_room(alloc);
+    match read_value_into(alloc, room, document, location) {
+        Ok(Found::Value(flat)) => {
+            let pushed = push_found(form, location, Some(flat.value()), &mut memory.text);
+            memory.room = flat.into_room();
+            pushed?;
+            Ok(())
+        }
+        Ok(Found::Nothing(room)) => {
+            memory.room = room;
+            Ok(())
+        }
+        Err((room, fault)) => {
+            memory.room = room;
+            Err(FindFault::from(fault))
+        }
+    }
+}
+
+/// Reads the whole document, and walks through it.
+fn ask_whole(
+    alloc: Global,
+    form: Form,
+    count: u64,
+    query: &Checked,
+    document: &[u8],
+    memory: &mut Memory,
+    steps: &mut Steps,
+) -> Result<(), FindFault>
+    requires { Fits document.now }
+    ensures answer { OnOk result ((d : Value) × IsDocument document.now d
+        × (string_bytes memory.new.text ≡ string_bytes memory.old.text
+        ++ answer_of count form (query_of query.now.query) d)) }
+    ensures fault { IfErr result (IsNoAnswerOf document.now) }
+    ensures spends { Spends result steps.old steps.new }
+{
+    let room = memory.take_room(alloc);
+    match read_into(alloc, room, document) {
+        Ok(flat) => {
+            let asked = walk(alloc, form, count, query, flat.value(), memory, steps);
+            memory.room = flat.into_room();
+            asked
+        }
+        Err((room, fault)) => {
+            memory.room = room;
+            Err(FindFault::from(fault))
+        }
+    }
+}
+
+/// Walks through a document that was read.
+fn walk(
+    alloc: Global,
+    form: Form,
+    count: u64,
+    query: &Checked,
+    root: FlatValue<'_, '_>,
+    memory: &mut Memory,
+    steps: &mut Steps,
+) -> Result<(), FindFault>
+    ensures answer { OnOk result (string_bytes memory.new.text ≡ string_bytes memory.old.text
+        ++ answer_of count form (query_of query.now.query) (lent_flat root.entry)) }
+    ensures fault { IfErr result (λ fault. (fault ≡ find.NoMemory) ⊎ (fault ≡ find.StepsUsedUp)) }
+    ensures spends { Spends result steps.old steps.new }
+{
+    let mut walk = memory.walking.open(alloc)?;
+    let pushed = push_selected(
+        alloc,
+        form,
+        most(count),
+        root,
+        query,
+        &mut walk.rooms,
+        steps,
+        &mut memory.text,
+    );
+    memory.walking.close(walk);
+    match pushed {
+        Ok(()) => Ok(()),
+        Err(fault) => Err(FindFault::from(fault)),
+    }
+}

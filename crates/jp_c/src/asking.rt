@@ -1,0 +1,192 @@
+//! The calls that ask a query that is kept, in memory that is kept with it, and lend the answer.
+ghost use Rattle.std.specs.Prelude.{◌≡◌, None, Some, option_map};
+ghost use Rattle.jp_c.specs.Asking.{AnswersLent, IsAskDocumentOutcome, IsAskOutcome};
+ghost use Rattle.jp_c.specs.Handles.{document_kept, kept_by, query_kept};
+ghost use Rattle.jp_c.specs.Limit.{Within};
+ghost use Rattle.jp_c.specs.Outcome.{report_of};
+ghost use Rattle.jp_c.specs.Private.Askers.{Asks, IsAskedOutcome};
+ghost use Rattle.jp_c.specs.declared.outcome.Outcome.TheVariants.{Usage};
+ghost use Rattle.jp_flat.specs.FlatValue.{document_in};
+
+use crate::handle::Handle;
+use crate::kept::Kept;
+use crate::lent::Lent;
+use crate::limit::steps_within;
+use crate::numbers::form;
+use crate::outcome::{Outcome, Report};
+use jp_flat::Flat;
+use std::alloc::Global;
+
+/// Asks the query that the handle keeps of a document, as `jp_eval` does: a line for each node, or for as
+/// many as `count` says, from the first on, where 0 is all. The text is lent from the handle until its next
+/// call. Where a call with the same query took enough memory before, this one takes none. Answers the
+/// report's status: 2 where the handle keeps no query, 6 where the evaluation needs more steps.
+#[unsafe(no_mangle)]
+pub extern "C" fn jp_ask(
+    alloc: Global,
+    query: &mut Handle,
+    document: &[u8],
+    form: u32,
+    count: u64,
+    limit: u64,
+    text: &mut Lent,
+    report: &mut Report,
+) -> u32
+    ensures answers { AnswersLent (Within limit (IsAskOutcome form count (kept_by query.old) document.now))
+        (kept_by query.new) text.new report.new result }
+    ensures query { query_kept (kept_by query.new) ≡ query_kept (kept_by query.old) }
+    ensures document { document_kept (kept_by query.new) ≡ document_kept (kept_by query.old) }
+{
+    let mut kept = Handle::take(alloc, query);
+    let (lent, told) = asked(
+        alloc,
+        &mut kept,
+        Given::Bytes(document),
+        form,
+        count,
+        limit,
+    );
+    *query = Handle::of_any(alloc, kept);
+    *text = lent;
+    *report = told;
+    told.status
+}
+
+/// Asks the query that one handle keeps of the document that the other does: a line for each node, or for
+/// as many as `count` says, from the first on, where 0 is all. The text is lent from the query's handle until
+/// its next call; both handles keep what they keep. Answers the report's status: 2 where a handle keeps
+/// nothing or the other of the two, 6 where the evaluation needs more steps.
+#[unsafe(no_mangle)]
+pub extern "C" fn jp_ask_document(
+    alloc: Global,
+    query: &mut Handle,
+    document: &mut Handle,
+    form: u32,
+    count: u64,
+    limit: u64,
+    text: &mut Lent,
+    report: &mut Report,
+) -> u32
+    ensures answers { AnswersLent
+        (Within limit (IsAskDocumentOutcome form count (kept_by query.old) (kept_by document.old)))
+        (kept_by query.new) text.new report.new result }
+    ensures query { query_kept (kept_by query.new) ≡ query_kept (kept_by query.old) }
+    ensures other { document_kept (kept_by query.new) ≡ document_kept (kept_by query.old) }
+    ensures document { kept_by document.new ≡ kept_by document.old }
+{
+    let mut kept = Handle::take(alloc, query);
+    let other = Handle::take(alloc, document);
+    let (lent, told) = match flat_of(&other) {
+        Some(flat) => asked(
+            alloc,
+            &mut kept,
+            Given::Document(flat),
+            form,
+            count,
+            limit,
+        ),
+        None => usage(),
+    };
+    *query = Handle::of_any(alloc, kept);
+    *document = Handle::of_any(alloc, other);
+    *text = lent;
+    *report = told;
+    told.status
+}
+
+/// What a query is asked of.
+#[derive(Clone, Copy)]
+enum Given<'d> {
+    /// The document that these bytes are.
+    Bytes(&'d [u8]),
+    /// A document that is kept.
+    Document(&'d Flat<'static>),
+}
+
+/// The document that is kept, if one is.
+fn flat_of(kept: &Option<Box<Kept, Global>>) -> Option<&Flat<'static>>
+    ensures { option_map (λ f. document_in f.now) result
+        ≡ document_kept (option_map (λ b. b.value) kept.now) }
+{
+    match kept {
+        Some(kept) => match &**kept {
+            Kept::Document(flat) => Some(flat),
+            Kept::Query(_) => None,
+        },
+        None => None,
+    }
+}
+
+/// The answer of what is kept, and its report.
+fn asked(
+    alloc: Global,
+    kept: &mut Option<Box<Kept, Global>>,
+    given: Given<'_>,
+    form: u32,
+    count: u64,
+    limit: u64,
+) -> (Lent, Report)
+    ensures { Asks (λ k. Within limit (IsAskedOutcome form count given k))
+        (option_map (λ b. b.value) kept.old) (option_map (λ b. b.value) kept.new) result.0 result.1 }
+{
+    match kept {
+        Some(kept) => asked_of_box(alloc, kept, given, form, count, limit),
+        None => usage(),
+    }
+}
+
+/// The same of what a box holds.
+fn asked_of_box(
+    alloc: Global,
+    kept: &mut Box<Kept, Global>,
+    given: Given<'_>,
+    form: u32,
+    count: u64,
+    limit: u64,
+) -> (Lent, Report)
+    ensures { Asks (λ k. Within limit (IsAskedOutcome form count given k))
+        (Some kept.old.value) (Some kept.new.value) result.0 result.1 }
+{
+    asked_of(alloc, kept.as_mut(), given, form, count, limit)
+}
+
+/// The same of what is in it.
+fn asked_of(
+    alloc: Global,
+    kept: &mut Kept,
+    given: Given<'_>,
+    form_number: u32,
+    count: u64,
+    limit: u64,
+) -> (Lent, Report)
+    ensures { Asks (λ k. Within limit (IsAskedOutcome form_number count given k))
+        (Some kept.old) (Some kept.new) result.0 result.1 }
+{
+    let Some(form) = form(form_number) else {
+        return usage();
+    };
+    let Kept::Query(asker) = kept else {
+        return usage();
+    };
+    let mut steps = steps_within(limit);
+    match given {
+        Given::Bytes(document) => {
+            let answer = asker.ask(alloc, form, count, document, &mut steps);
+            let (answered, spare) = asker.answered(alloc, limit, steps, answer);
+            asker.tell(answered.placed(alloc, document, None), spare)
+        }
+        Given::Document(flat) => {
+            let answer = asker.ask_value(alloc, form, count, flat.value(), &mut steps);
+            let (answered, spare) = asker.answered(alloc, limit, steps, answer);
+            asker.tell(answered, spare)
+        }
+    }
+}
+
+/// No text, where a number stands for nothing or a handle keeps no such thing.
+fn usage() -> (Lent, Report)
+    ensures nothing { result.0.length ≡ 0 }
+    ensures report { result.1 ≡ report_of Usage 0 }
+{
+    (Lent::nothing(), Outcome::Usage.report(0))
+}

@@ -1,0 +1,246 @@
+//! The calls that lend their answers.
+use crate::{
+    Handle, Kept, Lent, Report, jp_ask, jp_ask_document, jp_clear, jp_document_new, jp_query_new,
+};
+use std::alloc::Global;
+use std::test::Fail;
+
+/// Numbers that no call leaves.
+const UNKNOWN: Report = Report {
+    status: 9,
+    kind: 9,
+    place: 9,
+    length: 9,
+    steps: 9,
+};
+
+/// A report of a text of this length, for which so many steps were made.
+fn done(length: usize, steps: u64) -> Report {
+    Report {
+        status: 0,
+        kind: 0,
+        place: 0,
+        length,
+        steps,
+    }
+}
+
+/// A handle that keeps this query.
+fn query(alloc: Global, text: &[u8]) -> Result<Handle, Fail> {
+    let mut handle = Handle::empty(alloc);
+    let mut report = UNKNOWN;
+    match jp_query_new(alloc, text, 0, &mut handle, &mut report) {
+        0 => Ok(handle),
+        _ => Err("no query")?,
+    }
+}
+
+/// The text that the handle keeps as its answer, where it keeps a query.
+fn text_of(alloc: Global, handle: &mut Handle) -> Result<Option<Vec<u8>>, Fail> {
+    let kept = Handle::take(alloc, handle);
+    let text = match &kept {
+        Some(kept) => match &**kept {
+            Kept::Query(asker) => Some(Vec::from_slice(alloc, asker.memory.text.as_bytes())?),
+            Kept::Document(_) => None,
+        },
+        None => None,
+    };
+    *handle = Handle::of_any(alloc, kept);
+    Ok(text)
+}
+
+/// The report of a call over these bytes, and its text.
+fn asked(
+    alloc: Global,
+    query: &mut Handle,
+    document: &[u8],
+    form: u32,
+    count: u64,
+    limit: u64,
+) -> Result<(Report, Vec<u8>), Fail> {
+    let (mut text, mut report) = (Lent::nothing(), UNKNOWN);
+    let status = jp_ask(
+        alloc,
+        query,
+        document,
+        form,
+        count,
+        limit,
+        &mut text,
+        &mut report,
+    );
+    let kept = text_of(alloc, query)?.ok_or("no query")?;
+    match (
+        status == report.status,
+        text.length == report.length && text.length == kept.len(),
+    ) {
+        (true, true) => Ok((report, kept)),
+        _ => Err("two statuses or lengths")?,
+    }
+}
+
+#[test]
+fn asks_again_and_again(rt: HostRuntime) -> Result<(), Fail> {
+    let alloc = rt.alloc();
+    let rows: [(&[u8], &[u8], u32, u64, Report, &[u8]); 9] = [
+        (b"$.a[0]", br#"{"a":[7,8]}"#, 0, 0, done(2, 0), b"7\n"),
+        (
+            b"$.a[0]",
+            br#"{"a":[7,8]}"#,
+            2,
+            1,
+            done(12, 0),
+            b"$['a'][0]\t7\n",
+        ),
+        (b"$.a[0]", br#"{"b":1}"#, 0, 0, done(0, 0), b""),
+        (
+            b"$.a",
+            br#"{"a":[{"b":"\u0061\n"}]}"#,
+            0,
+            0,
+            done(14, 0),
+            b"[{\"b\":\"a\\n\"}]\n",
+        ),
+        (b"$", b" [ ] ", 1, 0, done(2, 0), b"$\n"),
+        (b"$.a[*]", br#"{"a":[7,8]}"#, 0, 0, done(4, 11), b"7\n8\n"),
+        (b"$.a[*]", br#"{"a":[7,8]}"#, 0, 2, done(4, 9), b"7\n8\n"),
+        (
+            b"$.a[*]",
+            br#"{"a":[7,8]}"#,
+            1,
+            1,
+            done(10, 8),
+            b"$['a'][0]\n",
+        ),
+        (
+            b"$..b",
+            br#"{"a":[{"b":1},{"b":2}]}"#,
+            0,
+            0,
+            done(4, 30),
+            b"1\n2\n",
+        ),
+    ];
+    for (text, document, form, count, report, lines) in rows {
+        let mut query = query(alloc, text)?;
+        for _ in 0..3 {
+            let (told, given) = asked(alloc, &mut query, document, form, count, 0)?;
+            assert_eq!(rt; given.as_slice(), lines);
+            assert_eq!(rt; told.length, report.length);
+            assert_eq!(rt; told.status, 0);
+        }
+    }
+    Ok(())
+}
+
+#[test]
+fn asks_one_document_after_another(rt: HostRuntime) -> Result<(), Fail> {
+    let alloc = rt.alloc();
+    let mut named = query(alloc, b"$.a[1]")?;
+    let mut walks = query(alloc, b"$..[?match(@.b,'x.*')].c")?;
+    for _ in 0..2 {
+        for (document, one, other) in [
+            (
+                br#"{"a":[1,[2,3]]}"#.as_slice(),
+                b"[2,3]\n".as_slice(),
+                b"".as_slice(),
+            ),
+            (
+                br#"{"a":{"b":"xy","c":"\u00e9"}}"#,
+                b"",
+                "\"é\"\n".as_bytes(),
+            ),
+            (
+                br#"[{"b":"x","c":1},{"b":"y","c":2},{"b":"xx","c":{"d":null}}]"#,
+                b"",
+                b"1\n{\"d\":null}\n",
+            ),
+            (br#"{"a":[1],"b":5}"#, b"", b""),
+        ] {
+            assert_eq!(rt;
+                asked(alloc, &mut named, document, 0, 0, 0)?.1.as_slice(),
+                one
+            );
+            assert_eq!(rt;
+                asked(alloc, &mut walks, document, 0, 0, 0)?.1.as_slice(),
+                other
+            );
+        }
+    }
+    Ok(())
+}
+
+#[test]
+fn tells_why_there_is_no_answer(rt: HostRuntime) -> Result<(), Fail> {
+    let alloc = rt.alloc();
+    for text in [b"$.a[0]".as_slice(), b"$..*"] {
+        let mut query = query(alloc, text)?;
+        asked(alloc, &mut query, br#"{"a":[7]}"#, 0, 0, 0)?;
+        let (told, path) = asked(alloc, &mut query, br#"{"a":[0,2.5]}"#, 0, 0, 0)?;
+        assert_eq!(rt; (told.status, told.kind, told.length), (3, 2, 9));
+        assert_eq!(rt; path.as_slice(), b"$['a'][1]".as_slice());
+        let (told, nothing) = asked(alloc, &mut query, b"[1,]", 0, 0, 0)?;
+        assert_eq!(rt; (told.status, told.kind), (3, 1));
+        assert_eq!(rt; nothing.as_slice(), b"".as_slice());
+        let (told, nothing) = asked(alloc, &mut query, b"[1]", 3, 0, 0)?;
+        assert_eq!(rt; (told.status, told.length), (2, 0));
+        assert_eq!(rt;
+            asked(alloc, &mut query, br#"{"a":[7]}"#, 1, 1, 0)?.0.status,
+            0
+        );
+    }
+    let mut walks = query(alloc, b"$.a[*]")?;
+    let (told, nothing) = asked(alloc, &mut walks, br#"{"a":[7,8]}"#, 0, 0, 10)?;
+    assert_eq!(rt; (told.status, told.steps), (6, 10));
+    assert_eq!(rt; nothing.as_slice(), b"".as_slice());
+    assert_eq!(rt;
+        asked(alloc, &mut walks, br#"{"a":[7,8]}"#, 0, 0, 11)?.0,
+        done(4, 11)
+    );
+    Ok(())
+}
+
+#[test]
+fn asks_what_is_kept(rt: HostRuntime) -> Result<(), Fail> {
+    let alloc = rt.alloc();
+    let (mut one, mut document) = (query(alloc, b"$.a[*]")?, Handle::empty(alloc));
+    let (mut text, mut report) = (Lent::nothing(), UNKNOWN);
+    jp_document_new(
+        alloc,
+        br#"{"a":[7,8]}"#,
+        &mut document,
+        &mut [],
+        &mut report,
+    );
+    for (count, lines) in [(0, b"7\n8\n".as_slice()), (1, b"7\n"), (5, b"7\n8\n")] {
+        let status = jp_ask_document(
+            alloc,
+            &mut one,
+            &mut document,
+            0,
+            count,
+            0,
+            &mut text,
+            &mut report,
+        );
+        assert_eq!(rt; (status, text.length), (0, lines.len()));
+        assert_eq!(rt; text_of(alloc, &mut one)?.as_deref(), Some(lines));
+    }
+    let status = jp_ask_document(
+        alloc,
+        &mut document,
+        &mut one,
+        0,
+        0,
+        0,
+        &mut text,
+        &mut report,
+    );
+    assert_eq!(rt; (status, text.length, report.steps), (2, 0, 0));
+    let status = jp_ask(alloc, &mut document, b"[]", 0, 0, 0, &mut text, &mut report);
+    assert_eq!(rt; (status, text.length), (2, 0));
+    jp_clear(alloc, &mut one);
+    let status = jp_ask(alloc, &mut one, b"[]", 0, 0, 0, &mut text, &mut report);
+    assert_eq!(rt; (status, text.length), (2, 0));
+    Ok(())
+}
