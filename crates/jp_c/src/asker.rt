@@ -115,10 +115,7 @@ impl Asker {
     {
         let text = mem::replace(&mut self.memory.text, String::new(alloc));
         match answer {
-            Ok(()) => (
-                Answered::within(limit, left, Ok(text)),
-                String::new(alloc),
-            ),
+            Ok(()) => (Answered::within(limit, left, Ok(text)), String::new(alloc)),
             Err(fault) => (Answered::within(limit, left, Err(fault)), text),
         }
     }

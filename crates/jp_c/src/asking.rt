@@ -38,14 +38,7 @@ pub extern "C" fn jp_ask(
     ensures document { document_kept (kept_by query.new) ≡ document_kept (kept_by query.old) }
 {
     let mut kept = Handle::take(alloc, query);
-    let (lent, told) = asked(
-        alloc,
-        &mut kept,
-        Given::Bytes(document),
-        form,
-        count,
-        limit,
-    );
+    let (lent, told) = asked(alloc, &mut kept, Given::Bytes(document), form, count, limit);
     *query = Handle::of_any(alloc, kept);
     *text = lent;
     *report = told;
@@ -77,14 +70,7 @@ pub extern "C" fn jp_ask_document(
     let mut kept = Handle::take(alloc, query);
     let other = Handle::take(alloc, document);
     let (lent, told) = match flat_of(&other) {
-        Some(flat) => asked(
-            alloc,
-            &mut kept,
-            Given::Document(flat),
-            form,
-            count,
-            limit,
-        ),
+        Some(flat) => asked(alloc, &mut kept, Given::Document(flat), form, count, limit),
         None => usage(),
     };
     *query = Handle::of_any(alloc, kept);

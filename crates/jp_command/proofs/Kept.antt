@@ -72,15 +72,21 @@ module _ (profile : Profile) {R W : Type 0} (remaining : R → Option (List ℕ)
       → ReadsAll remaining has_failed read_gives i j bytes → (f : DocumentFault)
       → IsDocumentFault bytes f → Keeps (fault_of_document f)
   of-document q asked reads document.NoMemory fault = tt
-  of-document q asked reads document.NotJson fault =
-      (refuses profile remaining has_failed read_gives contents writes_failed text bytes q i j asked
-      reads document.NotJson fault (λ is. cc), refl)
-  of-document q asked reads (document.NotWhole path) fault =
-      (refuses profile remaining has_failed read_gives contents writes_failed text bytes q i j asked
-      reads (document.NotWhole path) fault (λ is. cc), refl)
-  of-document q asked reads document.ListTooLong fault =
-      (refuses profile remaining has_failed read_gives contents writes_failed text bytes q i j asked
-      reads document.ListTooLong fault (λ is. cc), refl)
+  of-document q asked reads document.NotJson fault = (
+    refuses profile remaining has_failed read_gives contents writes_failed text bytes q i j asked
+        reads document.NotJson fault (λ is. cc),
+    refl,
+  )
+  of-document q asked reads (document.NotWhole path) fault = (
+    refuses profile remaining has_failed read_gives contents writes_failed text bytes q i j asked
+        reads (document.NotWhole path) fault (λ is. cc),
+    refl,
+  )
+  of-document q asked reads document.ListTooLong fault = (
+    refuses profile remaining has_failed read_gives contents writes_failed text bytes q i j asked
+        reads document.ListTooLong fault (λ is. cc),
+    refl,
+  )
 
   pub keeps-document : {X : Type 0} (q : QueryTree) → IsAsked profile text q
       → ReadsAll remaining has_failed read_gives i j bytes → (r : Result X Fault) (f : DocumentFault)
