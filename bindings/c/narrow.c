@@ -91,6 +91,27 @@ static void select_kept(struct asked *it) {
                            &it->report);
 }
 
+/* Copies a text that is lent to where other calls write theirs. */
+static void take(struct asked *it, const struct jp_text *text) {
+    if (text->length > 0 && text->length <= it->out.length) {
+        memcpy(it->out.at, text->start, text->length);
+    }
+}
+
+static void ask_kept(struct asked *it) {
+    struct jp_text text;
+    it->status = jp_ask(&it->kept_query, it->document.at, it->document.length, JP_BOTH, JP_ALL, JP_NO_LIMIT, &text,
+                        &it->report);
+    take(it, &text);
+}
+
+static void ask_document(struct asked *it) {
+    struct jp_text text;
+    it->status = jp_ask_document(&it->kept_query, &it->kept_document, JP_BOTH, JP_ALL, JP_NO_LIMIT, &text,
+                                 &it->report);
+    take(it, &text);
+}
+
 /* The three after one another, so that one thread has both handles. */
 static void keep_and_select(struct asked *it) {
     query_new(it);
@@ -124,6 +145,8 @@ static const struct {
     {"jp_query_new", query_new},
     {"jp_document_new", document_new},
     {"jp_select", select_kept},
+    {"jp_ask", ask_kept},
+    {"jp_ask_document", ask_document},
     {"handles", keep_and_select},
     {"jp_clear", clear},
     {"jp_kind_name", kind_name},
