@@ -56,7 +56,7 @@ module _ (profile : Profile) {R W : Type 0} (remaining : R → Option (List ℕ)
   module _ (form : Form) (text bytes : List ℕ) (q : QueryTree) (i j : R) (o : W)
       (asked : IsAsked profile text q) (reads : ReadsAll remaining has_failed read_gives i j bytes)
     where
-      pub refuses : (f : DocumentFault) → IsDocumentFault bytes f → f ≢ document.NoMemory
+      refuses : (f : DocumentFault) → IsDocumentFault bytes f → f ≢ document.NoMemory
           → RefusesDocument profile remaining has_failed read_gives contents writes_failed text i j f
       refuses f fault known =
           record { q = q; bytes = bytes; asked = asked; reads = reads; fault = fault; known = known }

@@ -1,5 +1,5 @@
 -- What the program says of a fault: its line, or that of a refused query or document with an explanation.
-use Rattle.std.proofs.Common.{◌≡◌, ◌⊎◌, inl, inr, ℕ, Bool, true, List, Option, Err, subst, sym}
+use Rattle.std.proofs.Common.{◌≡◌, ◌⊎◌, ◌∙◌, inl, inr, ℕ, Bool, true, List, Option, Err, subst, sym}
 use Rattle.jp_check.specs.declared.profile.Profile.{Profile}
 use Rattle.jp_document.specs.declared.fault.DocumentFault.{DocumentFault}
 use Rattle.jp_command.specs.Line.{EndsAs, RunsLine, TellsExplained, TellsMisread, explained, fault}
@@ -47,19 +47,19 @@ module _ {R W E : Type 0} (remaining : R → Option (List ℕ)) (has_failed : R 
   Keeps profile query =
       KeepsRead profile remaining has_failed read_gives contents writes_failed query i j
 
-  pub says-fault : (profile : Profile) (bytes : List ℕ) (f : Fault) (run : Ended profile f)
-      → status ≡ status_of f → Keeps profile run.query bytes f
+  pub says-fault : (profile : Profile) (bytes read : List ℕ) (f : Fault) (run : Ended profile f)
+      → status ≡ status_of f → bytes ≡ read → Keeps profile run.query read f
       → TellsFault (reports u) (reports v) run.explains profile run.query bytes f → Says
-  says-fault profile bytes f run is kept (line_alone prefix) = fault profile f is run prefix
-  says-fault profile bytes f run is kept (with_misreading d same asks told) =
+  says-fault profile bytes read f run is all kept (line_alone prefix) = fault profile f is run prefix
+  says-fault profile bytes read f run is all kept (with_misreading d same asks told) =
       let P : Fault → Type 0 = λ g. (ended : Ended profile g) → status ≡ status_of g
-      → ended.explains ≡ true → Keeps profile ended.query bytes g
+      → ended.explains ≡ true → Keeps profile ended.query read g
       → TellsMisread bytes (Document d) (reports u) (reports v) → Says in
       subst P (sym same)
       (λ ended is asks kept told. misread profile d is ended asks kept.0
-      (subst (λ read. TellsMisread read (Document d) (reports u) (reports v)) kept.1 told))
+      (subst (λ t. TellsMisread t (Document d) (reports u) (reports v)) (all ∙ kept.1) told))
       run is asks kept told
-  says-fault profile bytes f run is kept (with_explanation r same asks told) =
+  says-fault profile bytes read f run is all kept (with_explanation r same asks told) =
       let P : Fault → Type 0 = λ g. (ended : Ended profile g) → status ≡ status_of g
       → ended.explains ≡ true → TellsExplained profile ended.query r (reports u) (reports v)
       → Says in

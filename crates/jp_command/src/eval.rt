@@ -76,17 +76,17 @@ pub(crate) fn run_eval_keeping<R: Source, W: Writer>(
         W.has_failed query.now input.old input.new kept.new.items) }
 {
     let query = read_within_limit(alloc, query, profile)?;
-    *kept = read_all(alloc, input)?;
-    let bytes = kept.as_slice();
+    let bytes = read_all(alloc, input)?;
+    *kept = bytes;
     let mut spare = Spare::new(alloc);
     match named_location(alloc, &query)? {
         Some(location) => {
-            let found = read_value_at(alloc, bytes, &location)?;
+            let found = read_value_at(alloc, kept.as_slice(), &location)?;
             let value = found_value(&found);
             write_found(alloc, form, "", &location, value, &mut spare.line, output)
         }
         None => {
-            let flat = read_flat(alloc, bytes)?;
+            let flat = read_flat(alloc, kept.as_slice())?;
             write_selected(alloc, form, "", flat.value(), &query, &mut spare, output)
         }
     }

@@ -1,5 +1,6 @@
 -- What is written or told in two steps.
-use Rattle.std.proofs.Common.{◌≡◌, ℕ, Bool, true, false, List, [], ◌++◌, Option, Some, None}
+use Rattle.std.proofs.Common.{◌≡◌, ℕ, Bool, true, false, List, [], ◌++◌, Option, Some, None, Result}
+use Rattle.std.proofs.Common.{Ok, Err, OnOk, OnErr}
 use Rattle.std.proofs.Common.{subst, refl, sym, ◌∙◌, ap, append_assoc}
 use Rattle.std.proofs.lemmas.List.{append-nil}
 use Rattle.std.specs.Io.KnownBytes.{Appends}
@@ -63,3 +64,11 @@ module _ {E : Type 0} (reports : E → Option (List ℕ)) (has_failed : E → Bo
   tells-more u v w x y (nothing a e) (whole d f g) = cc
   tells-more u v w x y (nothing a e) (part d f g) = cc
   tells-more u v w x y (nothing a e) (nothing d f) = nothing a (f ∙ e)
+
+  -- what was tried to be told where no write had failed before
+  pub tells-tried : {X F : Type 0} (u v : E) (x : List ℕ) (r : Result X F) → has_failed u ≡ false
+      → OnOk r (WritesAll reports has_failed u v x)
+      → OnErr r (AppendsPrefix (reports u) (reports v) x) → OnErr r (has_failed v ≡ true)
+      → Told u v x
+  tells-tried u v x (Ok a) works all prefix fails = whole works (all.works ∙ works) all.written
+  tells-tried u v x (Err e) works all prefix fails = part works fails prefix

@@ -9,6 +9,7 @@ use Rattle.jp_command.specs.Lines.{lines_of, output_of}
 use Rattle.jp_command.specs.Run.{IsOutput}
 use Rattle.jp_command.proofs.Calls.{writes-by_calls}
 use Rattle.jp_command.proofs.FoundLines.{found-output}
+use Rattle.jp_command.proofs.Kept.{keeps-document, keeps-writing}
 use Rattle.jp_command.proofs.Runs.{ends-document, ends-naming, ends-reading, run-ends}
 use Rattle.jp_command.proofs.eval.run_eval_keeping.Goals as goal
 
@@ -24,12 +25,24 @@ returns-in_err-location-clause-says g c =
     (query_of c.in_ok-query.query.query) _ _ _ c.in_ok-query.ensures.asked c.in_ok-bytes.ensures.ok
     _ _ c.from_residual-in_err-location.ensures.1
 
+pub returns-in_err-found-in-Some-clause-kept : goal.returns-in_err-found-in-Some-clause-kept
+returns-in_err-found-in-Some-clause-kept g c =
+    keeps-document c.args.profile _ _ _ _ _ c.args.query.now _ _ c.in_ok-bytes.bytes.items
+    (query_of c.in_ok-query.query.query) c.in_ok-query.ensures.asked c.in_ok-bytes.ensures.ok
+    _ c.in_err-found-in-Some.field-0.0 (search rules) c.from_residual-in_err-found-in-Some.ensures.1
+
 pub returns-in_err-found-in-Some-clause-says : goal.returns-in_err-found-in-Some-clause-says
 returns-in_err-found-in-Some-clause-says g c =
     ends-document c.args.profile _ _ _ _ _ c.args.form c.args.query.now c.in_ok-bytes.bytes.items
     (query_of c.in_ok-query.query.query) _ _ _ c.in_ok-query.ensures.asked c.in_ok-bytes.ensures.ok
     _ _ c.in_err-found-in-Some.field-0.0 (search rules)
     c.from_residual-in_err-found-in-Some.ensures.1
+
+pub returns-in_err-flat-in-None-clause-kept : goal.returns-in_err-flat-in-None-clause-kept
+returns-in_err-flat-in-None-clause-kept g c =
+    keeps-document c.args.profile _ _ _ _ _ c.args.query.now _ _ c.in_ok-bytes.bytes.items
+    (query_of c.in_ok-query.query.query) c.in_ok-query.ensures.asked c.in_ok-bytes.ensures.ok
+    _ c.in_err-flat-in-None.field-0.0 (search rules) c.from_residual-in_err-flat-in-None.ensures.1
 
 pub returns-in_err-flat-in-None-clause-says : goal.returns-in_err-flat-in-None-clause-says
 returns-in_err-flat-in-None-clause-says g c =
@@ -67,13 +80,15 @@ returns g c =
       calls = writes-by_calls g.W.Writer.write_takes Is c.args.output.now
           c.write_selected.new.output output c.write_selected.result is
           c.write_selected.ensures.calls;
+      kept = keeps-writing c.args.profile _ _ _ _ _ c.args.query.now _ _ _ _ _ output
+          c.write_selected.result c.write_selected.ensures.stopped;
     }
 
 pub returns-in-Some : goal.returns-in-Some
 returns-in-Some g c =
     let bytes = c.in_ok-bytes.bytes.items in
     let q = query_of c.in_ok-query.query.query in
-    let ks = c.deref-in-Some-2.result.now in
+    let ks = c.deref-in-Some.result.now in
     let names : NamesLocation q (map step_of ks) = search rules in
     let found : IsValueAt bytes (map step_of ks) c.in_ok-found-in-Some.found = search rules in
     let value = c.found_value-value.result in
@@ -99,4 +114,6 @@ returns-in-Some g c =
           c.write_found.ensures.ok c.write_found.ensures.stopped;
       calls = writes-by_calls g.W.Writer.write_takes Is c.args.output.now c.write_found.new.output
           output c.write_found.result is c.write_found.ensures.calls;
+      kept = keeps-writing c.args.profile _ _ _ _ _ c.args.query.now _ _ _ _ _ output
+          c.write_found.result c.write_found.ensures.stopped;
     }

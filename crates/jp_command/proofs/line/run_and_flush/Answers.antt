@@ -3,14 +3,16 @@ use Rattle.jp_command.proofs.line.run_and_flush.Goals as goal
 
 pub returns-in-Ok : goal.returns-in-Ok
 returns-in-Ok g c = record {
-  says = flush-works c.args.profile _ _ _ _ _ c.args.task c.args.query.now _ _ _ _ _
+  says = flush-works c.args.asked.now.profile _ _ _ _ _ c.args.asked.now.task c.args.asked.now.query.now _ _ _ _ _
       c.in_ok-run_task.ensures.says c.in-Ok.ensures.bytes c.in-Ok.ensures.works;
   calls = calls-work _ _ _ _ _ c.in_ok-run_task.ensures.calls c.in-Ok.ensures.done;
+  kept = tt;
 }
 
 pub returns-in-Err : goal.returns-in-Err
 returns-in-Err g c = record {
-  says = flush-fails c.args.profile _ _ _ _ _ c.args.task c.args.query.now _ _ _ _ _
+  says = flush-fails c.args.asked.now.profile _ _ _ _ _ c.args.asked.now.task c.args.asked.now.query.now _ _ _ _ _
       c.in_ok-run_task.ensures.says c.in-Err.ensures.bytes c.in-Err.ensures.fails;
   calls = calls-fail _ _ _ _ _ c.in_ok-run_task.ensures.calls c.in-Err.ensures.stopped;
+  kept = tt;
 }

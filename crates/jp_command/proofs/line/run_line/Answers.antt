@@ -17,8 +17,8 @@ returns-in-Ok-run_and_flush g c = done c.in-Ok.asked.profile refl
 
 pub returns-in-Ok : goal.returns-in-Ok
 returns-in-Ok g c =
-    says-fault _ _ _ _ _ _ _ _ _ _ _ _ _ _ _ c.in-Ok.asked.profile c.run_and_flush.new.kept.items
-    c.in-Err-run_and_flush.fault
+    says-fault _ _ _ _ _ _ _ _ _ _ _ _ _ _ _ c.in-Ok.asked.profile c.as_slice.result.now
+    c.run_and_flush.new.kept.items c.in-Err-run_and_flush.fault
     (record {
       task = c.in-Ok.asked.task;
       query = c.in-Ok.asked.query.now;
@@ -27,7 +27,7 @@ returns-in-Ok g c =
       runs = c.in-Err-run_and_flush.ensures.says;
       calls = c.in-Err-run_and_flush.ensures.calls;
     })
-    c.status.ensures c.in-Err-run_and_flush.ensures.kept c.tell.ensures
+    c.status.ensures (search rules) c.in-Err-run_and_flush.ensures.kept c.tell.ensures
 
 pub returns : goal.returns
 returns g c = search rules

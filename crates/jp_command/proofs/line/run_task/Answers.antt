@@ -10,7 +10,7 @@ pub returns-in-Canon-clause-calls : goal.returns-in-Canon-clause-calls
 returns-in-Canon-clause-calls g c = rw c.in-Canon.is c.run_canon.ensures.calls
 
 pub returns-in-Eval-clause-calls : goal.returns-in-Eval-clause-calls
-returns-in-Eval-clause-calls g c = rw c.in-Eval.is c.run_eval.ensures.calls
+returns-in-Eval-clause-calls g c = rw c.in-Eval.is c.run_eval_keeping.ensures.calls
 
 pub returns-in-Check-clause-kept : goal.returns-in-Check-clause-kept
 returns-in-Check-clause-kept g c =
