@@ -42,7 +42,7 @@ extern "C" {
 #define JP_VERSION 0x000100
 
 /* As many bytes of stack as any call may need. */
-#define JP_STACK 720896
+#define JP_STACK 737280
 
 /* Some queries take years over a document of a few bytes. So a call that evaluates takes a limit of
  * steps, which count its work; docs/QUERIES.md says what a step is. */

@@ -1,4 +1,4 @@
-/* Tests what jp.h promises of threads with little stack, from 64 KiB to 1 MiB, with the deepest queries,
+/* Tests what jp.h promises of threads with little stack, from 16 KiB to 1 MiB, with the deepest queries,
  * documents and patterns: each call ends with what it gives on a large stack, or with JP_NO_STACK, which has
  * done nothing. Where it does not refuse, some of the stack is left over: it was filled with a pattern before.
  * So a change by which calls need more than bindings/c/stack.c says fails here. With 1 MiB no call is refused,
@@ -15,17 +15,19 @@
 #include <ucontext.h>
 
 #define KIB ((size_t)1 << 10)
-#define LARGE (8 * KIB * KIB)
+/* The stack of the main thread, which has room. */
+#define HERE 0
 #define ROOM (64 * KIB)
-#define SMALLEST (32 * KIB)
 #define PAINT 0xa5
 /* What a call leaves over at least. Not under AddressSanitizer, whose allocator takes more stack. */
 #ifdef __SANITIZE_ADDRESS__
 #define SPARED 0
 #define STEP (64 * KIB)
+#define SMALLEST (64 * KIB)
 #else
 #define SPARED (8 * KIB)
 #define STEP (4 * KIB)
+#define SMALLEST (16 * KIB)
 #endif
 
 static int failures = 0;
@@ -133,23 +135,27 @@ static void kind_name(struct asked *it) {
     it->status = jp_kind_name(JP_QUERY_REFUSED, JP_SYNTAX, it->out.at, it->out.length, &it->report);
 }
 
+/* The calls, and the stack of the thread that fills their handles. One with room does not count how deep a
+ * document is. */
 static const struct {
     const char *name;
     void (*call)(struct asked *);
+    size_t filled_on;
 } calls[] = {
-    {"jp_eval", eval},
-    {"jp_eval_many", eval_many},
-    {"jp_canon", canon},
-    {"jp_check", check},
-    {"jp_explain", explain},
-    {"jp_query_new", query_new},
-    {"jp_document_new", document_new},
-    {"jp_select", select_kept},
-    {"jp_ask", ask_kept},
-    {"jp_ask_document", ask_document},
-    {"handles", keep_and_select},
-    {"jp_clear", clear},
-    {"jp_kind_name", kind_name},
+    {"jp_eval", eval, HERE},
+    {"jp_eval_many", eval_many, HERE},
+    {"jp_canon", canon, HERE},
+    {"jp_check", check, HERE},
+    {"jp_explain", explain, HERE},
+    {"jp_query_new", query_new, HERE},
+    {"jp_document_new", document_new, HERE},
+    {"jp_select", select_kept, HERE},
+    {"jp_select of what was counted", select_kept, 672 * KIB},
+    {"jp_ask", ask_kept, HERE},
+    {"jp_ask_document", ask_document, HERE},
+    {"the calls with handles", keep_and_select, HERE},
+    {"jp_clear", clear, HERE},
+    {"jp_kind_name", kind_name, HERE},
 };
 
 #define CALLS (sizeof calls / sizeof calls[0])
@@ -165,6 +171,10 @@ static size_t call_within(size_t size, struct asked *asked) {
     pthread_attr_t attributes;
     pthread_t thread;
     size_t untouched = 0;
+    if (size == HERE) {
+        asked->call(asked);
+        return 0;
+    }
     /* A page before the stack, so that to leave it ends the test. */
     uint8_t *memory = mmap(NULL, size + 4 * KIB, PROT_READ | PROT_WRITE, MAP_PRIVATE | MAP_ANONYMOUS, -1, 0);
     uint8_t *stack = memory + 4 * KIB;
@@ -233,14 +243,18 @@ static void forget(struct asked *asked) {
     free(asked->out.at);
 }
 
-/* Makes the call of a row on a thread with so much stack, with handles that this thread, which has room,
- * has filled. Gives how many bytes of the stack were never written. */
+static void keep(struct asked *it) {
+    query_new(it);
+    document_new(it);
+}
+
+/* Makes the call of a row on a thread with so much stack, with handles that another has filled. Gives how
+ * many bytes of the stack were never written. */
 static size_t call_for(const struct row *row, size_t call, size_t size, struct asked *asked) {
-    struct jp_report report;
     *asked = ask(row);
-    jp_query_new(asked->query.at, asked->query.length, asked->profile, &asked->kept_query, &report);
-    jp_document_new(asked->document.at, asked->document.length, &asked->kept_document, asked->out.at,
-                    asked->out.length, &report);
+    asked->call = keep;
+    call_within(calls[call].filled_on, asked);
+    asked->report = (struct jp_report){9, 9, 9, 9, 9};
     const struct jp_handle query = asked->kept_query, document = asked->kept_document;
     memset(asked->out.at, '#', asked->out.length);
     asked->call = calls[call].call;
@@ -277,7 +291,7 @@ static int is_answered(const struct row *row, size_t call, size_t size, const st
 static size_t least(const struct row *row, size_t call) {
     size_t low = SMALLEST, high = 1024 * KIB;
     struct asked expected;
-    call_for(row, call, LARGE, &expected);
+    call_for(row, call, HERE, &expected);
     expect(is_answered(row, call, high, &expected), "an answer with 1 MiB", row->name, calls[call].name, high);
     if (is_answered(row, call, low, &expected)) {
         high = low;
@@ -321,6 +335,8 @@ static const struct row deep[] = {
     {"open calls", NESTED("$[?", "f(", "", "", "", 20000), ONE("[]"), 0},
     {"open parentheses", NESTED("$[?", "(", "", "", "", 20000), ONE("[]"), 0},
     {"comparisons as arguments", NESTED("$[?", "f(@&&1==", "1", ")", "]", 127), ONE("[]"), 0},
+    {"all parts as arguments", NESTED("$[?", "f(@||@&&1==", "@", ")", "]", 127), ONE("[]"), 0},
+    {"all parts of calls", NESTED("$[?", "@||@&&1==f(", "1==1", ")", "]", 127), ONE("[]"), 0},
     {"slips", NESTED("$[?@.a=1&&", "(@.b=1&&", "@.c='", ")", "']", 127), ONE("[]"), 0},
     {"lists", ONE("$..*"), LISTS, 0},
     {"objects", ONE("$..*"), NESTED("", "{\"b\":1,\"a\":", "1", "}", "", 127), 0},
@@ -331,6 +347,7 @@ static const struct row deep[] = {
     {"open lists", ONE("$"), NESTED("", "[", "", "", "", 50000), 0},
     {"open objects", ONE("$"), NESTED("", "{\"a\":", "", "", "", 50000), 0},
     {"compared objects", ONE("$[?@==$.a]"), NESTED("", "{\"a\":", "1", "}", "", 127), 0},
+    {"a pattern", ONE("$[?match('a',@)]"), ONE("[\"a\",\"[^b]\"]"), 0},
     {"groups", ONE("$[?match('a',@)]"), NESTED("[\"", "(b|", "a", ")*", "\"]", 64), 0},
     {"too many groups", ONE("$[?match('a',@)]"), NESTED("[\"", "(", "a", ")", "\"]", 20000), 0},
     {"escaped groups", ONE("$[?search('a',@)]"), NESTED("[\"", "\\u0028", "a", ")", "\"]", 64), 0},

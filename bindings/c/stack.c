@@ -21,8 +21,8 @@ enum {
     /* Bytes. SPARE is for the C library, and for a handler of a signal. */
     SPARE = 12 << 10,
     QUERY = SPARE + (8 << 10),     /* a call that reads no document, without its levels */
-    DOCUMENT = SPARE + (56 << 10), /* a call that reads one */
-    LEVEL = 3584,                  /* to read a level */
+    DOCUMENT = SPARE + (24 << 10), /* a call that reads one */
+    LEVEL = 4352,                  /* to read a level */
     VALUE = 448,                   /* to write or compare a level of a document */
     GROUP = 1152,                  /* to read a group of a pattern */
     MOST = DOCUMENT + LEVEL * MOST_LEVELS + VALUE * MOST_LEVELS + GROUP * MOST_GROUPS

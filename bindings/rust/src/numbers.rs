@@ -7,7 +7,7 @@ use std::fmt;
 pub(crate) const NO_LIMIT: u64 = 0;
 
 /// As many bytes of stack as any call may need.
-pub(crate) const STACK: usize = 720896;
+pub(crate) const STACK: usize = 737280;
 
 pub(crate) mod status {
     pub(crate) const DONE: u32 = 0;
