@@ -199,7 +199,7 @@ uint32_t jp_kind_name(uint32_t status, uint32_t kind,
 struct jp_handle {
     void *at;
     unsigned char full;
-    unsigned char depth[3];
+    unsigned char depth[3]; /* how deep that is, by which calls know how much stack they need */
 };
 
 /* clang-format off */

@@ -29,6 +29,8 @@ enum {
 };
 
 _Static_assert((int)MOST <= JP_STACK, "the header tells of the largest need");
+/* The proved calls know the first two fields alone; the third lies where these leave room. */
+_Static_assert(sizeof(struct jp_handle) == 2 * sizeof(void *), "a handle is as large as theirs");
 
 /* How deep what a call reads is: levels to read, levels of a document, groups of patterns. */
 struct depth {
