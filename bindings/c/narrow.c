@@ -79,6 +79,12 @@ static void explain(struct asked *it) {
                             it->out.length, &it->report);
 }
 
+static void explain_document(struct asked *it) {
+    struct jp_place place;
+    it->status = jp_explain_document(it->document.at, it->document.length, JP_DOCUMENT_LINE, &place, it->out.at,
+                                     it->out.length, &it->report);
+}
+
 static void query_new(struct asked *it) {
     it->status = jp_query_new(it->query.at, it->query.length, it->profile, &it->kept_query, &it->report);
 }
@@ -147,6 +153,7 @@ static const struct {
     {"jp_canon", canon, HERE},
     {"jp_check", check, HERE},
     {"jp_explain", explain, HERE},
+    {"jp_explain_document", explain_document, HERE},
     {"jp_query_new", query_new, HERE},
     {"jp_document_new", document_new, HERE},
     {"jp_select", select_kept, HERE},
