@@ -8,7 +8,8 @@ pub mod Told
 pub mod Explaining
 pub mod Shown
 pub mod LineLemmas
-pub mod Flushes
+pub mod Firsts
+mod Flushes
 pub mod FoundLines
 pub mod Headline
 pub mod Fronts

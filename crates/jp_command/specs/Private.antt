@@ -3,6 +3,7 @@
 pub mod AsFound
 pub mod Asked
 pub mod Faults
+pub mod Firsts
 pub mod Fronts
 pub mod Kept
 pub mod Shown

@@ -4,6 +4,7 @@ ghost use Rattle.std.specs.Prelude.{◌≡◌, ◌++◌, IfErr, IfOk, OnOk, map,
 ghost use Rattle.std.specs.List.{flat_map};
 ghost use Rattle.jp_command.specs.Found.{found_nodes};
 ghost use Rattle.jp_command.specs.Lines.{line_behind, line_of, lines_of};
+ghost use Rattle.jp_command.specs.Private.Fronts.{path_in_line};
 ghost use Rattle.jp_document.specs.Location.{step_of};
 ghost use Rattle.jp_document.specs.Node.{node_at};
 ghost use Rattle.jp_command.specs.Output.{StopsWriting, WritesAll};
@@ -66,11 +67,19 @@ fn push_line_at<'d, V: Selectable>(
     ensures { OnOk result (string_bytes line.new
         ≡ string_bytes line.old ++ line_of form (node_at (map step_of location.now) (V.meaning value))) }
 {
-    match form {
-        Form::Values => {}
-        Form::Paths | Form::Both => push_path(line, location)?,
-    }
+    push_path_alone(form, location, line)?;
     push_after_path(form, value, line)
+}
+
+/// Appends the path that the line of the node at this location has, if it has one.
+fn push_path_alone(form: Form, location: &[Step<'_>], line: &mut String) -> Result<(), AllocError>
+    ensures { OnOk result (string_bytes line.new ≡ string_bytes line.old
+        ++ path_in_line form (map step_of location.now)) }
+{
+    match form {
+        Form::Values => Ok(()),
+        Form::Paths | Form::Both => push_path(line, location),
+    }
 }
 
 /// Writes that line, behind the text `lead`; it is made in `line`, and what that held is gone then.

@@ -6,7 +6,7 @@ ghost use Rattle.jp_command.specs.Lines.{line_behind, line_of, output_behind};
 ghost use Rattle.jp_command.specs.Output.{StopsWriting, WritesAll};
 ghost use Rattle.jp_command.specs.Writes.{GoesAs};
 ghost use Rattle.jp_command.specs.Private.AsFound.{WritesAsFound};
-ghost use Rattle.jp_command.specs.Private.Fronts.{HasPathText, text_after_path};
+ghost use Rattle.jp_command.specs.Private.Fronts.{HasPathText, path_in_line, text_after_path};
 ghost use Rattle.jp_command.specs.Private.Shown.{GivesShown};
 ghost use Rattle.jp_evaluate.specs.Lent.{has_failed, rest_of, steps_of};
 ghost use Rattle.jp_evaluate.specs.Stopping.{StopsSpent};
@@ -54,11 +54,26 @@ pub(crate) fn push_line<'d, V: Selectable>(
     ensures line { OnOk result (string_bytes line.new ≡ string_bytes line.old
         ++ line_of form (node_at (map step_of location.now) (V.meaning value))) }
 {
-    match form {
-        Form::Values => {}
-        Form::Paths | Form::Both => front.push_path(location, line)?,
-    }
+    push_front(form, front, location, line)?;
     push_after_path(form, value, line)
+}
+
+/// Appends the path that the line of the node at this location has, if it has one.
+fn push_front<'d>(
+    form: Form,
+    front: &mut Front<'d>,
+    location: &[Step<'d>],
+    line: &mut String,
+) -> Result<(), AllocError>
+    requires { HasPathText front.old }
+    ensures kept { OnOk result (HasPathText front.new) }
+    ensures path { OnOk result (string_bytes line.new ≡ string_bytes line.old
+        ++ path_in_line form (map step_of location.now)) }
+{
+    match form {
+        Form::Values => Ok(()),
+        Form::Paths | Form::Both => front.push_path(location, line),
+    }
 }
 
 /// Appends what the line of a node with this value has behind the path.
@@ -102,7 +117,8 @@ pub fn selected_lines<'d: 'q, 'q, V: Selectable + 'd>(
     let read = mem::replace(patterns, Patterns::new(alloc));
     let mut nodes = lent_nodes_with(alloc, root, query, &Marks, read, *steps);
     let mut lines = String::new(alloc);
-    let (mut location, mut front) = (Vec::new(alloc), Front::new(alloc));
+    let mut location: Vec<Step<'d>> = Vec::new(alloc);
+    let mut front: Front<'d> = Front::new(alloc);
     let pushed = push_rest(
         form,
         lead,

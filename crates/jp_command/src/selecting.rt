@@ -4,6 +4,7 @@ ghost use Rattle.std.specs.Prelude.{◌≡◌, ◌-◌, ◌++◌, OnOk, [], fals
 ghost use Rattle.std.specs.List.{flat_map};
 ghost use Rattle.jp_command.specs.Lines.{line_behind, lines_of};
 ghost use Rattle.jp_command.specs.Selecting.{first_nodes};
+ghost use Rattle.jp_command.specs.Private.Firsts.{is_more};
 ghost use Rattle.jp_command.specs.Private.Fronts.{HasPathText};
 ghost use Rattle.jp_evaluate.specs.Lent.{has_failed, rest_of, steps_of};
 ghost use Rattle.jp_evaluate.specs.Nodelist.{nodelist};
@@ -96,7 +97,7 @@ pub(crate) fn push_rest<'d: 'q, 'q, V: Selectable + 'd>(
     ensures stopped { StopsSpent result (steps_of nodes.new) }
 {
     let mut left = most;
-    while left != Some(0) {
+    while is_more(left) {
         let Some(next) = next_shown(form, nodes, location) else {
             return Ok(());
         };
@@ -106,6 +107,16 @@ pub(crate) fn push_rest<'d: 'q, 'q, V: Selectable + 'd>(
         left = one_less(left);
     }
     Ok(())
+}
+
+/// Whether there is one more of so many, or of all.
+fn is_more(left: Option<u64>) -> bool
+    ensures { result ≡ is_more left }
+{
+    match left {
+        Some(count) => count != 0,
+        None => true,
+    }
 }
 
 /// How many are left of so many, or of all, after one.

@@ -1,32 +1,20 @@
-use Rattle.std.proofs.Common.{◌≡◌, ◌++◌, ◌∙◌, ap, append_assoc, rules, string_bytes, sym}
+use Rattle.std.proofs.Common.{◌≡◌, ◌∷◌, ◌++◌, ◌∙◌, ap, append_assoc, rules, string_bytes, sym, true}
 use Rattle.std.specs.List.{flat_map}
 use Rattle.jp_evaluate.specs.Lent.{lent_node, rest_of}
 use Rattle.jp_select.proofs.Stepping.{takes_then}
 use Rattle.jp_command.specs.Lines.{line_behind, line_of}
+use Rattle.jp_command.specs.Private.Firsts.{is_more}
+use Rattle.jp_command.specs.Selecting.{first_nodes}
+use Rattle.jp_command.proofs.Firsts.{first_more}
 use Rattle.jp_command.proofs.LineLemmas.{line_alike}
-use Rattle.jp_command.proofs.lines.lines_of_rest.Goals as goal
+use Rattle.jp_command.proofs.selecting.push_rest.Goals as goal
 
-pub returns-in_err-value-clause-takes : goal.returns-in_err-value-clause-takes
-returns-in_err-value-clause-takes g c =
-    takes_then c.loop-next.invariant.taken c.next_shown.ensures.takes
-
-pub returns-in_err-push_str-clause-takes : goal.returns-in_err-push_str-clause-takes
-returns-in_err-push_str-clause-takes g c =
-    takes_then c.loop-next.invariant.taken c.next_shown.ensures.takes
-
-pub returns-in_err-push_line-clause-takes : goal.returns-in_err-push_line-clause-takes
-returns-in_err-push_line-clause-takes g c =
-    takes_then c.loop-next.invariant.taken c.next_shown.ensures.takes
-
-pub returns-clause-takes : goal.returns-clause-takes
-returns-clause-takes g c =
-    takes_then c.loop-next.invariant.taken c.next_shown.ensures.takes
-
-pub loop-next-preserved : goal.loop-next-preserved
-loop-next-preserved g c =
+pub loop-form-preserved : goal.loop-form-preserved
+loop-form-preserved g c =
     let behind = line_behind c.args.lead.now c.args.form in
     let rest = rest_of g.V.Lent.meaning in
-    let old = string_bytes c.loop-next.lines in
+    let old = string_bytes c.loop-form.lines in
+    let left = c.loop-form.left in
     let given = rw (c.in-Some.is, c.in_ok-value.was) at c.next_shown.ensures.gives in
     let n = given.0 in
     let there = line_of c.args.form
@@ -37,12 +25,18 @@ loop-next-preserved g c =
     let shown = lined ∙ ap (λ t. t ++ there) led ∙ append_assoc old c.args.lead.now there in
     let line : string_bytes c.push_line.new.line ≡ old ++ behind n =
         shown ∙ ap (λ t. old ++ t) (sym (line_alike c.args.lead.now c.args.form n _ given.4)) in
+    let more : is_more left ≡ true = sym c.is_more.ensures ∙ c.loop-form-test.true in
+    let asked : n ∷ first_nodes c.one_less-left.result (rest c.next_shown.new.nodes)
+        ≡ first_nodes left (n ∷ rest c.next_shown.new.nodes) =
+        ap (λ o. n ∷ first_nodes o (rest c.next_shown.new.nodes)) c.one_less-left.ensures
+        ∙ sym (first_more left n (rest c.next_shown.new.nodes) more) in
     record {
       front = search rules;
       working = given.2;
-      all = ap (λ t. t ++ flat_map behind (rest c.next_shown.new.nodes)) line
+      all = ap (λ t. t ++ flat_map behind (first_nodes c.one_less-left.result (rest c.next_shown.new.nodes))) line
           ∙ append_assoc old (behind n) _
-          ∙ ap (λ ns. old ++ flat_map behind ns) (sym given.3)
-          ∙ c.loop-next.invariant.all;
-      taken = takes_then c.loop-next.invariant.taken c.next_shown.ensures.takes;
+          ∙ ap (λ ns. old ++ flat_map behind ns) asked
+          ∙ ap (λ ns. old ++ flat_map behind (first_nodes left ns)) (sym given.3)
+          ∙ c.loop-form.invariant.all;
+      taken = takes_then c.loop-form.invariant.taken c.next_shown.ensures.takes;
     }

@@ -4,17 +4,20 @@ use Rattle.jp_select.specs.Steps.{Takes}
 use Rattle.jp_evaluate.specs.Lent.{has_failed, rest_of, steps_of}
 use Rattle.jp_command.specs.Lines.{line_behind}
 use Rattle.jp_command.specs.Private.Fronts.{HasPathText}
-use Rattle.jp_command.proofs.lines.lines_of_rest.Given as goal
+use Rattle.jp_command.specs.Selecting.{first_nodes}
+use Rattle.jp_command.proofs.selecting.push_rest.Given as goal
 
--- the lines so far and those of the nodes to come are all lines
-abbrev pub invariant-loop-next : goal.invariant-loop-next
-invariant-loop-next g l = record {
+-- the lines so far and those of the nodes to come that are asked for are all lines
+abbrev pub invariant-loop-form : goal.invariant-loop-form
+invariant-loop-form g l = record {
   front : HasPathText l.front;
   working : has_failed l.nodes ≡ false;
-  all : string_bytes l.lines ++ flat_map (line_behind l.lead l.form) (rest_of g.V.Lent.meaning l.nodes)
-      ≡ flat_map (line_behind l.lead l.form) (rest_of g.V.Lent.meaning l.fn.nodes);
+  all : string_bytes l.lines
+      ++ flat_map (line_behind l.lead l.form) (first_nodes l.left (rest_of g.V.Lent.meaning l.nodes))
+      ≡ string_bytes l.fn.lines
+      ++ flat_map (line_behind l.lead l.form) (first_nodes l.fn.most (rest_of g.V.Lent.meaning l.fn.nodes));
   taken : Takes (steps_of l.fn.nodes) (steps_of l.nodes);
 }
 
-abbrev pub decreases-loop-next : goal.decreases-loop-next
-decreases-loop-next g l = length (rest_of g.V.Lent.meaning l.nodes)
+abbrev pub decreases-loop-form : goal.decreases-loop-form
+decreases-loop-form g l = length (rest_of g.V.Lent.meaning l.nodes)

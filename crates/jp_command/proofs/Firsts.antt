@@ -1,0 +1,13 @@
+-- The first nodes, one after another.
+use Rattle.std.proofs.Common.{◌≡◌, ℕ, zero, suc, ◌-◌, List, [], ◌∷◌, Option, Some, None, true, false}
+use Rattle.std.proofs.Common.{ap, arith, option_map, refl, sym, take}
+use Rattle.jp_document.specs.Node.{Node}
+use Rattle.jp_command.specs.Private.Firsts.{is_more}
+use Rattle.jp_command.specs.Selecting.{first_nodes}
+
+pub first_more : (o : Option ℕ) (n : Node) (ns : List Node) → is_more o ≡ true
+    → first_nodes o (n ∷ ns) ≡ n ∷ first_nodes (option_map (λ k. k - 1) o) ns
+first_more None n ns more = refl
+first_more (Some zero) n ns more = absurd (cc)
+first_more (Some (suc k)) n ns more =
+    let less : suc k - 1 ≡ k = omega arith in ap (λ j. n ∷ take j ns) (sym less)
