@@ -102,8 +102,12 @@ static uint32_t ask(struct jp_handle *query, const char *document, uint64_t limi
 /* One document after another: nothing of the one before is left. */
 static void try_changing(void) {
     static const char *const documents[][2] = {
-        {DOCUMENT, "7\n"}, {"{\"a\":[]}", ""},          {"{\"a\":[[1,[2]]]}", "[1,[2]]\n"},
-        {"{}", ""},        {"{\"a\":[\"\\u0041\"]}", "\"A\"\n"}, {"{\"a\":[0]}", "0\n"},
+        {DOCUMENT, "7\n"},
+        {"{\"a\":[]}", ""},
+        {"{\"a\":[[1,[2]]]}", "[1,[2]]\n"},
+        {"{}", ""},
+        {"{\"a\":[\"\\u0041\"]}", "\"A\"\n"},
+        {"{\"a\":[0]}", "0\n"},
     };
     struct jp_handle named = JP_EMPTY, walks = JP_EMPTY;
     struct jp_report report;

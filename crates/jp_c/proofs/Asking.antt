@@ -1,6 +1,6 @@
 -- What is told of an answer is an outcome of what was asked.
 use Rattle.std.proofs.Common.{◌≡◌, ◌⊎◌, ℕ, List, IfErr, MatchResult, None, Ok, OnOk, Err, Option, Result, Some}
-use Rattle.std.proofs.Common.{String, inl, inr, string_bytes, subst, sym}
+use Rattle.std.proofs.Common.{String, arith, inl, inr, string_bytes, subst, sym}
 use Rattle.std.specs.declared.alloc.Global.{Global}
 use Rattle.jp_command.specs.declared.lines.Form.{Form}
 use Rattle.jp_document.specs.Document.{IsDocument}
@@ -12,39 +12,48 @@ use Rattle.jsonpath.specs.declared.fault.FindFault.TheVariants.{Query, Document,
 use Rattle.jsonpath.specs.declared.fault.FindFault.TheVariants.{NoMemory, StepsUsedUp}
 use Rattle.jp_c.specs.Asking.{IsAskDocumentOutcome, IsAskOutcome, IsAskedOf, IsNoAnswerOf, answer_of}
 use Rattle.jp_c.specs.Handles.{document_kept}
+use Rattle.jp_c.specs.Limit.{MakesSteps, Within}
 use Rattle.jp_c.specs.Private.Askers.{IsValueOutcome}
 use Rattle.jp_c.specs.Private.Placing.{IsPlaced, IsTold}
 use Rattle.jp_c.specs.declared.kept.Kept.{Kept}
 use Rattle.jp_c.specs.declared.outcome.Outcome as outcome
 use Rattle.jp_c.specs.declared.outcome.Outcome.TheVariants.{Text, Usage, Fault, Misread}
 
-module _ (form count : ℕ) (query : Option Kept) (f : Form) (q : QueryTree) (bytes : List ℕ)
-    (is : IsAskedOf form query f q) where
+module _ (limit form count : ℕ) (query : Option Kept) (f : Form) (q : QueryTree) (bytes : List ℕ)
+    (is : IsAskedOf form query f q) (steps : ℕ) where
+  abbrev IsAllowed : outcome.Outcome → Type 0
+  IsAllowed o = Within limit (IsAskOutcome form count query bytes) o steps
+
   told_fault : (fault : FindFault) (p : outcome.Outcome) → IsNoAnswerOf bytes fault
-      → IsTold bytes fault p → IsAskOutcome form count query bytes p
-  told_fault (Document d) p none (inl told) =
-      subst (IsAskOutcome form count query bytes) (sym told.2) (f, q, is, none, told.1)
-  told_fault (Document d) p none (inr told) =
-      subst (IsAskOutcome form count query bytes) (sym told) (f, q, is, tt, tt)
-  told_fault (Query r) p none told = absurd none
-  told_fault DocumentTooLarge p none told =
-      subst (IsAskOutcome form count query bytes) (sym told) (f, q, is, none, tt)
-  told_fault NoMemory p none told =
-      subst (IsAskOutcome form count query bytes) (sym told) (f, q, is, none, tt)
-  told_fault StepsUsedUp p none told =
-      subst (IsAskOutcome form count query bytes) (sym told) (f, q, is, none, tt)
+      → MakesSteps limit (Fault fault) steps → IsTold bytes fault p → IsAllowed p
+  told_fault (Document d) p none made (inl told) =
+      subst IsAllowed (sym told.2) ((f, q, is, none, told.1), made)
+  told_fault (Document d) p none made (inr told) =
+      subst IsAllowed (sym told) ((f, q, is, tt, tt), λ _. omega (arith, made))
+  told_fault (Query r) p none made told = absurd none
+  told_fault DocumentTooLarge p none made told =
+      subst IsAllowed (sym told) ((f, q, is, none, tt), made)
+  told_fault NoMemory p none made told = subst IsAllowed (sym told) ((f, q, is, none, tt), made)
+  told_fault StepsUsedUp p none made told = subst IsAllowed (sym told) ((f, q, is, none, tt), made)
 
   pub told_of_bytes : (text : String Global) (answer : Result (Unit {0}) FindFault)
-      (o p : outcome.Outcome)
+      (o p : outcome.Outcome) (made : ℕ)
       → MatchResult answer (λ _. o ≡ Text text) (λ fault. o ≡ Fault fault)
       → OnOk answer ((d : Value) × IsDocument bytes d × Fits bytes
       × (string_bytes text ≡ answer_of count f q d))
-      → IfErr answer (IsNoAnswerOf bytes) → IsPlaced bytes o p → IsAskOutcome form count query bytes p
-  told_of_bytes text (Ok u) o p same here none placed =
-      subst (IsAskOutcome form count query bytes) (sym (subst (λ x. IsPlaced bytes x p) same placed))
-      (f, q, here.0, is, here.1)
-  told_of_bytes text (Err fault) o p same here none placed =
-      told_fault fault p none (subst (λ x. IsPlaced bytes x p) same placed)
+      → IfErr answer (IsNoAnswerOf bytes) → MakesSteps limit o made → steps ≡ made
+      → IsPlaced bytes o p → IsAllowed p
+  told_of_bytes text (Ok u) o p made same here none makes counts placed =
+      subst IsAllowed (sym (subst (λ x. IsPlaced bytes x p) same placed)) (
+        (f, q, here.0, is, here.1),
+        subst (λ s. MakesSteps limit (Text text) s) (sym counts)
+            (subst (λ x. MakesSteps limit x made) same makes),
+      )
+  told_of_bytes text (Err fault) o p made same here none makes counts placed =
+      told_fault fault p none
+      (subst (λ s. MakesSteps limit (Fault fault) s) (sym counts)
+      (subst (λ x. MakesSteps limit x made) same makes))
+      (subst (λ x. IsPlaced bytes x p) same placed)
 
 pub told_of_value : (form count : ℕ) (query : Option Kept) (f : Form) (q : QueryTree)
     (text : String Global) (answer : Result (Unit {0}) FindFault) (o : outcome.Outcome) (d : Value)
