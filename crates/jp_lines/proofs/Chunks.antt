@@ -6,7 +6,7 @@ use Rattle.jp_tree.specs.Tree.{QueryTree}
 use Rattle.jp_command.specs.Limits.{document_limit}
 use Rattle.jp_command.specs.declared.fault.Fault.TheVariants as fault
 use Rattle.jp_lines.specs.Lines.{lines_of_input, newline}
-use Rattle.jp_lines.specs.Outcome.{Refused, ComesTo, refused, too_large}
+use Rattle.jp_lines.specs.Outcome.{Refused, ComesTo, defective, too_large}
 use Rattle.jp_lines.specs.Run.{GoesToRefusal, StopsAmong}
 use Rattle.jp_lines.specs.Private.Passing.{EndsLine, Keeps, Passes, PassesOn, Standing}
 use Rattle.jp_lines.specs.Private.Passing.{StopsPassing, is_in_line, kept_of, standing}
@@ -127,7 +127,7 @@ module _ (options : Options) {W E : Type 0} (contents : W → Option (List ℕ))
     unrefused = not_then _ _ on.passes.over.goes.allowed stops;
     comes = subst
         (λ n. ComesTo options q n on.next (Refused r)) on.passes.over.number
-        (refused TooLarge r (too_large (kept-many on.next (rw on.keeps.1 at many)))
+        (defective TooLarge r (too_large (kept-many on.next (rw on.keeps.1 at many)))
         (record { number_is = number; defect_is = defect; behind = behind }));
     complete = inr (inr defect);
     answered = omega arith;

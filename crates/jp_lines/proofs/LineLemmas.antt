@@ -21,7 +21,7 @@ use Rattle.jp_command.specs.declared.fault.Fault.TheVariants as fault
 use Rattle.jp_command.proofs.Streams.{Appends-keeps, prefix-whole}
 use Rattle.jp_lines.specs.Lines.{is_blank_line}
 use Rattle.jp_lines.specs.Outcome.{LineOutcome, Answered, Refused, ComesTo, blank, document}
-use Rattle.jp_lines.specs.Outcome.{IsDefective, IsRefusal, no_document, refused, steps_used_up}
+use Rattle.jp_lines.specs.Outcome.{IsDefective, IsRefusal, defective, no_document, steps_used_up}
 use Rattle.jp_lines.specs.Outcome.{lead_of, told_of, wanted_output}
 use Rattle.jp_lines.specs.Run.{Goes, GoesInPart, WritesInPart}
 use Rattle.jp_lines.specs.Told.{Tells}
@@ -140,9 +140,9 @@ module _ (options : Options) {W E : Type 0} (contents : W → Option (List ℕ))
       → IsDefective options kept d → IsRefusal options n kept d r → p ≡ o
       → Tells reports reports_failed u v (told_of (Refused r)) → options.keep_going ≡ true
       → Treats options contents writes_failed reports reports_failed q n line true o p u v
-  treats-refused d r o p u v defective of same tells going = record {
+  treats-refused d r o p u v has of same tells going = record {
     outcome = Refused r;
-    comes = comes-line _ (refused d r defective of);
+    comes = comes-line _ (defective d r has of);
     writes = subst (λ w. WritesAll contents writes_failed o w []) (sym same)
         (writes-none contents writes_failed o);
     tells = tells;
@@ -226,9 +226,9 @@ module _ (options : Options) {W E : Type 0} (contents : W → Option (List ℕ))
       ⊎ (((r : RefusedLine) × IsRefusal options n kept d r × (why ≡ stop.Line r))
       × (options.keep_going ≡ false))
       → Ends o p u v why
-  stops-refusing d o p u v why defective written told (inl is) =
+  stops-refusing d o p u v why has written told (inl is) =
       subst (Ends o p u v) (sym is) (part-none o p u v written told, ap writes_failed written)
-  stops-refusing d o p u v why defective written told (inr is) =
+  stops-refusing d o p u v why has written told (inr is) =
       subst (Ends o p u v) (sym is.0.2) (record {
         lines = [];
         line = line;
@@ -241,7 +241,7 @@ module _ (options : Options) {W E : Type 0} (contents : W → Option (List ℕ))
             (sym told) (goes-none options contents writes_failed reports reports_failed q n o u));
         unrefused = refl;
         comes = subst (λ m. ComesTo options q m line (Refused is.0.0)) (omega arith)
-            (comes-line _ (refused d is.0.0 defective is.0.1));
+            (comes-line _ (defective d is.0.0 has is.0.1));
         complete = inr (inl tt);
         answered = omega arith;
         stops = is.1;

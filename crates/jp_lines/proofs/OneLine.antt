@@ -12,7 +12,7 @@ use Rattle.jp_tree.specs.Tree.{QueryTree}
 use Rattle.jp_lines.specs.Laws.{OneLineIsADocument}
 use Rattle.jp_lines.specs.Lines.{is_blank_line, lines_of_input}
 use Rattle.jp_lines.specs.Outcome.{LineOutcome, ComesTo, ComeTo, none, one_more, blank, document}
-use Rattle.jp_lines.specs.Outcome.{refused, is_refused, lead_of}
+use Rattle.jp_lines.specs.Outcome.{defective, is_refused, lead_of}
 use Rattle.jp_lines.specs.Outcome.{some_refused}
 use Rattle.jp_lines.specs.Outcome.{wanted_output, written_of, written_of_all}
 use Rattle.jp_lines.specs.Reads.{ReadsToEnd}
@@ -85,7 +85,7 @@ module _ (profile : Profile) {R W E : Type 0} (remaining : R → Option (List �
             ∙ ap (λ b. wanted_output (Nodes form) (lead_of b 1) q d) numbered;
       }
   outcome-is form options q text bytes i j x wanted numbered asked reads some unrefused
-      (refused d r defective of) = cc
+      (defective d r has of) = cc
 
   pub one_line : OneLineIsADocument profile remaining has_failed read_gives contents writes_failed
       reports reports_failed

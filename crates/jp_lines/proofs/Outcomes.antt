@@ -4,7 +4,7 @@ use Rattle.std.proofs.Common.{◌++◌, length, subst, refl, arith}
 use Rattle.std.proofs.lemmas.List.{length-take, take_all}
 use Rattle.jp_command.specs.Limits.{document_limit}
 use Rattle.jp_lines.specs.Outcome.{LineOutcome, Refused, ComesTo, ComeTo, none, one_more}
-use Rattle.jp_lines.specs.Outcome.{IsDefective, IsRefusal, blank, document, no_document, refused}
+use Rattle.jp_lines.specs.Outcome.{IsDefective, IsRefusal, blank, document, no_document, defective}
 use Rattle.jp_lines.specs.Outcome.{steps_used_up, too_large}
 use Rattle.jp_lines.specs.Outcome.{is_refused, some_refused}
 use Rattle.jp_lines.specs.Private.Passing.{kept_of}
@@ -54,13 +54,13 @@ module _ (options : Options) (q : QueryTree) where
       → ComesTo options q n l (Refused r)
   refused-kept n l d r (no_document fault few some is known) of =
       subst (λ t. ComesTo options q n t (Refused r)) (kept-all l few)
-      (refused d r (no_document fault few some is known) of)
+      (defective d r (no_document fault few some is known) of)
   refused-kept n l d r (too_large many) of =
-      refused d r (too_large (kept-many l many))
+      defective d r (too_large (kept-many l many))
       (record { number_is = of.number_is; defect_is = of.defect_is; behind = of.behind })
   refused-kept n l d r (steps_used_up doc made few some is limit) of =
       subst (λ t. ComesTo options q n t (Refused r)) (kept-all l few)
-      (refused d r (steps_used_up doc made few some is limit) of)
+      (defective d r (steps_used_up doc made few some is limit) of)
 
   -- and so is what a line comes to
   pub comes-kept : (n : ℕ) (l : List ℕ) (x : LineOutcome) → ComesTo options q n (kept_of l) x
@@ -68,14 +68,14 @@ module _ (options : Options) (q : QueryTree) where
   comes-kept n l x (blank few is) = subst (λ t. ComesTo options q n t x) (kept-all l few) (blank few is)
   comes-kept n l x (document d few some is) =
       subst (λ t. ComesTo options q n t x) (kept-all l few) (document d few some is)
-  comes-kept n l x (refused d r defective of) = refused-kept n l d r defective of
+  comes-kept n l x (defective d r has of) = refused-kept n l d r has of
 
   -- a line that is not refused is not too large
   few-one : (n : ℕ) (l : List ℕ) (x : LineOutcome) → ComesTo options q n l x → is_refused x ≡ false
       → length l ≤ document_limit
   few-one n l x (blank few is) unrefused = few
   few-one n l x (document d few some is) unrefused = few
-  few-one n l x (refused d r defective of) unrefused = cc
+  few-one n l x (defective d r has of) unrefused = cc
 
   -- and so the last one of lines that are not refused is not
   pub few-last : (n : ℕ) (ls : List (List ℕ)) (xs : List LineOutcome) (init : List (List ℕ))

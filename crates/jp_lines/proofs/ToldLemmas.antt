@@ -65,10 +65,20 @@ module _ {E : Type 0} (reports : E → Option (List ℕ)) (has_failed : E → Bo
   tells-more u v w x y (nothing a e) (part d f g) = cc
   tells-more u v w x y (nothing a e) (nothing d f) = nothing a (f ∙ e)
 
-  -- what was tried to be told where no write had failed before
-  pub tells-tried : {X F : Type 0} (u v : E) (x : List ℕ) (r : Result X F) → has_failed u ≡ false
-      → OnOk r (WritesAll reports has_failed u v x)
-      → OnErr r (AppendsPrefix (reports u) (reports v) x) → OnErr r (has_failed v ≡ true)
-      → Told u v x
-  tells-tried u v x (Ok a) works all prefix fails = whole works (all.works ∙ works) all.written
-  tells-tried u v x (Err e) works all prefix fails = part works fails prefix
+  -- a text was told where no write had failed before, and then it was tried to tell another
+  pub tells-behind : {X F : Type 0} (u v w : E) (x y : List ℕ) (r : Result X F)
+      → has_failed u ≡ false → WritesAll reports has_failed u v x
+      → OnOk r (WritesAll reports has_failed v w y)
+      → OnErr r (AppendsPrefix (reports v) (reports w) y) → OnErr r (has_failed w ≡ true)
+      → Told u w (x ++ y)
+  tells-behind u v w x y (Ok a) works first all prefix fails =
+      tells-more u v w x y (whole works (first.works ∙ works) first.written)
+      (whole (first.works ∙ works) (all.works ∙ (first.works ∙ works)) all.written)
+  tells-behind u v w x y (Err e) works first all prefix fails =
+      tells-more u v w x y (whole works (first.works ∙ works) first.written)
+      (part (first.works ∙ works) fails prefix)
+
+  -- a write failed within the first of two texts
+  pub tells-cut : (u v : E) (x y : List ℕ) → has_failed u ≡ false → has_failed v ≡ true
+      → AppendsPrefix (reports u) (reports v) x → Told u v (x ++ y)
+  tells-cut u v x y works fails prefix = part works fails (prefix-longer _ _ x y prefix)

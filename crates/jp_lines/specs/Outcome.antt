@@ -115,7 +115,7 @@ module _ (options : Options) (q : QueryTree) where
         → IsDocument line d
         → ComesTo number line
         (Answered (wanted_output options.wanted (lead_of options.numbered number) q d))
-    refused : (defect : Defect) (r : RefusedLine) → IsDefective options line defect
+    defective : (defect : Defect) (r : RefusedLine) → IsDefective options line defect
         → IsRefusal options number line defect r → ComesTo number line (Refused r)
 
   -- the lines, numbered from there on, come to these, each to one

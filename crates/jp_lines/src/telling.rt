@@ -23,8 +23,9 @@ pub(crate) fn tell<E: Writer>(
         return Ok(());
     }
     let text = format!(in alloc; "{refused}\n")?;
-    if let Ok(()) = write_all(faults, text.as_bytes()) {
-        let _ = write_all(faults, refused.explanation.as_bytes());
-    }
+    let Ok(()) = write_all(faults, text.as_bytes()) else {
+        return Ok(());
+    };
+    let _ = write_all(faults, refused.explanation.as_bytes());
     Ok(())
 }
