@@ -1,7 +1,7 @@
 -- One line: its answer, its refusal, and why a run stops at it.
 use Rattle.std.proofs.Common.{◌≡◌, ◌⊎◌, inl, inr, ℕ, suc, ◌≤◌, ◌||◌, Bool, true, false, List, []}
-use Rattle.std.proofs.Common.{◌∷◌, ◌++◌}
-use Rattle.std.proofs.Common.{length, Option, Some, None, Result, Ok, Err, IfOk, IfErr, codes}
+use Rattle.std.proofs.Common.{◌∷◌}
+use Rattle.std.proofs.Common.{length, Option, Some, None, Result, Ok, Err, IfOk, IfErr}
 use Rattle.std.proofs.Common.{subst, refl, sym, ◌∙◌, ap, arith}
 use Rattle.std.proofs.KnownBytes.{Keeps-refl}
 use Rattle.std.proofs.Math.Bool.{or-false}

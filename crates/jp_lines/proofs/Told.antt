@@ -1,6 +1,6 @@
 -- What the program says of a run that stopped: its line, or that of a refused query with an
 -- explanation.
-use Rattle.std.proofs.Common.{◌≡◌, ◌⊎◌, inl, inr, ℕ, Bool, true, false, List, Option, Err, subst, sym}
+use Rattle.std.proofs.Common.{◌≡◌, ◌⊎◌, inl, inr, ℕ, Bool, false, List, Option, Err, subst, sym}
 use Rattle.jp_check.specs.declared.profile.Profile.{Profile}
 use Rattle.jp_command.specs.Line.{TellsExplained, fault_line}
 use Rattle.jp_command.specs.Output.{AppendsPrefix}
