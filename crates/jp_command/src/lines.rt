@@ -42,6 +42,7 @@ pub enum Form {
 
 /// Appends the line of the node at this location with this value. After an error nothing is said of
 /// the front.
+#[inline(always)]
 pub(crate) fn push_line<'d, V: Selectable>(
     form: Form,
     front: &mut Front<'d>,
@@ -59,6 +60,7 @@ pub(crate) fn push_line<'d, V: Selectable>(
 }
 
 /// Appends the path that the line of the node at this location has, if it has one.
+#[inline(always)]
 fn push_front<'d>(
     form: Form,
     front: &mut Front<'d>,
@@ -77,6 +79,7 @@ fn push_front<'d>(
 }
 
 /// Appends what the line of a node with this value has behind the path.
+#[inline(always)]
 pub(crate) fn push_after_path<V: Selectable>(
     form: Form,
     value: V,

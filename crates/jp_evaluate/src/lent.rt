@@ -232,6 +232,7 @@ impl<'d: 'q, 'q, V: Selectable + 'd, M: Matching> LentNodes<'d, 'q, V, M> {
     }
 
     /// Where the walk reaches the next node.
+    #[inline(always)]
     fn reach(&mut self) -> Result<Option<Reached<'d, V>>, EvaluationFault>
         ensures gives { IfOk result (λ o. let left = rest_of V.meaning in MatchOption o
             ((left self.old ≡ []) × (left self.new ≡ []))
@@ -247,6 +248,7 @@ impl<'d: 'q, 'q, V: Selectable + 'd, M: Matching> LentNodes<'d, 'q, V, M> {
     }
 
     /// Answers what is to be answered before the walk.
+    #[inline(always)]
     fn begin(&mut self) -> Result<(), EvaluationFault>
         ensures rest { OnOk result (rest_of V.meaning self.new ≡ rest_of V.meaning self.old) }
         ensures begun { OnOk result (is_begun self.new.segments ≡ true) }
