@@ -1,9 +1,12 @@
-"""Builds the wheel, with nothing but Python's own library (PEP 517).
+"""Builds the wheel, with nothing but Python's own library (PEP 517, and PEP 660 for `pip install -e`).
 
-The wheel holds the package as it stands, with the shared object that `bindings/build` puts into it.
+The wheel holds the package as it stands, with the shared object that `bindings/build` puts into it; or, where it is to
+be edited, the path of this folder. What it says of itself is in pyproject.toml.
 """
+import ast
 import base64
 import hashlib
+import io
 import os
 import re
 import sysconfig
@@ -14,6 +17,7 @@ NAME = "jsonpath_jp"
 HERE = os.path.dirname(os.path.abspath(__file__))
 LIBRARY = "libjp.so"
 SOURCES = ["pyproject.toml", "backend.py", "README.md"]
+LICENCES = ["LICENSE-APACHE", "LICENSE-MIT"]
 
 
 def _package_files():
@@ -29,7 +33,41 @@ def _contents(path):
         return file.read()
 
 
-VERSION = re.search(r'^version = "(.*)"$', _contents("pyproject.toml").decode(), re.MULTILINE)[1]
+def _licences():
+    """The licences' texts, which stand beside this file in a source archive and above it in the repository. An old
+    pip builds in a copy of the folder, where there are none."""
+    paths = [(name, os.path.join(above, name)) for above in (".", os.path.join("..", "..")) for name in LICENCES]
+    return [(name, _contents(path)) for name, path in paths if os.path.exists(os.path.join(HERE, path))]
+
+
+PROJECT = _contents("pyproject.toml").decode()
+
+
+def _said(name):
+    """A text or a list of texts of pyproject.toml, which Python spells as TOML does."""
+    return ast.literal_eval(re.search(rf'^{name} = (".*?"|\[.*?\])$', PROJECT, re.MULTILINE | re.DOTALL)[1])
+
+
+VERSION = _said("version")
+
+
+def _metadata():
+    author = re.search(r'^authors = \[\{ name = "(.*)" \}\]$', PROJECT, re.MULTILINE)[1]
+    licence = re.search(r'^license = \{ text = "(.*)" \}$', PROJECT, re.MULTILINE)[1]
+    lines = [
+        "Metadata-Version: 2.1",
+        f"Name: {_said('name')}",
+        f"Version: {VERSION}",
+        f"Summary: {_said('description')}",
+        f"Author: {author}",
+        f"License: {licence}",
+        *[f"License-File: {name}" for name, _ in _licences()],
+        f"Keywords: {','.join(_said('keywords'))}",
+        *[f"Classifier: {it}" for it in _said("classifiers")],
+        f"Requires-Python: {_said('requires-python')}",
+        "Description-Content-Type: text/markdown",
+    ]
+    return ("\n".join(lines) + "\n\n").encode() + _contents(_said("readme"))
 
 
 def _tag():
@@ -42,21 +80,11 @@ def _record_line(path, data):
     return f"{path},sha256={digest},{len(data)}\n"
 
 
-def build_wheel(wheel_directory, config_settings=None, metadata_directory=None):
-    """Writes the wheel into that folder, and answers its name."""
+def _write_wheel(wheel_directory, files):
     info = f"{NAME}-{VERSION}.dist-info"
-    metadata = (
-        "Metadata-Version: 2.1\n"
-        f"Name: {NAME.replace('_', '-')}\n"
-        f"Version: {VERSION}\n"
-        "Summary: JSONPath queries (RFC 9535) by the proved engine jp\n"
-        "License: MIT OR Apache-2.0\n"
-        "Requires-Python: >=3.8\n"
-    )
     wheel = f"Wheel-Version: 1.0\nGenerator: {NAME}\nRoot-Is-Purelib: false\nTag: {_tag()}\n"
-    files = [(path, _contents(path)) for path in _package_files()]
-    files.append((f"{info}/METADATA", metadata.encode()))
-    files.append((f"{info}/WHEEL", wheel.encode()))
+    files = [*files, (f"{info}/METADATA", _metadata()), (f"{info}/WHEEL", wheel.encode())]
+    files += [(f"{info}/{name}", text) for name, text in _licences()]
     record = "".join(_record_line(path, data) for path, data in files)
     files.append((f"{info}/RECORD", f"{record}{info}/RECORD,,\n".encode()))
     name = f"{NAME}-{VERSION}-{_tag()}.whl"
@@ -66,6 +94,17 @@ def build_wheel(wheel_directory, config_settings=None, metadata_directory=None):
     return name
 
 
+def build_wheel(wheel_directory, config_settings=None, metadata_directory=None):
+    """Writes the wheel into that folder, and answers its name."""
+    return _write_wheel(wheel_directory, [(path, _contents(path)) for path in _package_files()])
+
+
+def build_editable(wheel_directory, config_settings=None, metadata_directory=None):
+    """Writes a wheel that has Python look for the package in this folder, and answers its name."""
+    _package_files()
+    return _write_wheel(wheel_directory, [(f"{NAME}.pth", f"{HERE}\n".encode())])
+
+
 def build_sdist(sdist_directory, config_settings=None):
     """Writes the sources with the shared object into that folder, and answers the archive's name."""
     stem = f"{NAME}-{VERSION}"
@@ -73,4 +112,8 @@ def build_sdist(sdist_directory, config_settings=None):
     with tarfile.open(os.path.join(sdist_directory, name), "w:gz") as archive:
         for path in SOURCES + _package_files():
             archive.add(os.path.join(HERE, path), f"{stem}/{path}")
+        for path, data in [("PKG-INFO", _metadata()), *_licences()]:
+            entry = tarfile.TarInfo(f"{stem}/{path}")
+            entry.size = len(data)
+            archive.addfile(entry, io.BytesIO(data))
     return name

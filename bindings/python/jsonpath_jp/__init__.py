@@ -19,10 +19,29 @@ goes on until it is answered, or Ctrl-C is pressed.
 
 Any thread may make any call, at the same time as others; Python's lock is given up meanwhile.
 """
-from ._engine import DocumentError, Error, QueryError, StepsUsedUp, version
-from ._queries import Match, Query, canonical, check, find, find_many, parse, paths, values
+from ._errors import DocumentError, Error, QueryError, StepsUsedUp
+from ._library import version
+from ._queries import (
+    Document,
+    Match,
+    Query,
+    canonical,
+    check,
+    compile,
+    exists,
+    find,
+    find_many,
+    find_one,
+    finditer,
+    parse,
+    paths,
+    values,
+)
+
+__version__ = version()
 
 __all__ = [
+    "Document",
     "DocumentError",
     "Error",
     "Match",
@@ -31,8 +50,12 @@ __all__ = [
     "StepsUsedUp",
     "canonical",
     "check",
+    "compile",
+    "exists",
     "find",
     "find_many",
+    "find_one",
+    "finditer",
     "parse",
     "paths",
     "values",

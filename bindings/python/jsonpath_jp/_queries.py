@@ -1,30 +1,55 @@
 """Queries over documents, as Python has them."""
+import functools
 import json
-from typing import Any, Iterable, List, Optional, Union
+import operator
+from typing import Any, Iterable, Iterator, List, Optional, Tuple, Union
 
-from . import _engine
-from ._engine import QueryError, StepsUsedUp
+from . import _engine, _numbers
+from ._documents import Default, json_bytes
+from ._errors import QueryError, StepsUsedUp
+from ._kept import ALL, KeptDocument, KeptQuery
+from ._paths import Step, steps_of
 
-# A `str` or `bytes` is JSON text, and anything else is written as JSON.
-Document = Union[str, bytes, bytearray, memoryview, dict, list, tuple, int, bool, None]
+_ONE = 1
 
 
 class Match:
     """A node that a query selects.
 
-    path: its normalized path (RFC 9535, section 2.7). text: its value as compact JSON. value: its
-    value as a Python object, made anew each time; whole numbers are exact.
+    path: its normalized path (RFC 9535, section 2.7). steps: the names and indexes of the path, from the
+    root on. text: its value as compact JSON. value: its value as a Python object, made when it is first
+    asked for, and kept; whole numbers are exact.
     """
 
-    __slots__ = ("path", "text")
+    # The path and the text are parted when one is asked for: most of what a call takes here is to make these.
+    __slots__ = ("_line", "_steps", "_value")
 
     def __init__(self, path: str, text: str) -> None:
-        self.path = path
-        self.text = text
+        self._line = f"{path}\t{text}"
+
+    @property
+    def path(self) -> str:
+        return self._line.partition("\t")[0]
+
+    @property
+    def text(self) -> str:
+        return self._line.partition("\t")[2]
 
     @property
     def value(self) -> Any:
-        return json.loads(self.text)
+        try:
+            return self._value
+        except AttributeError:
+            self._value = json.loads(self.text)
+        return self._value
+
+    @property
+    def steps(self) -> List[Step]:
+        try:
+            return self._steps
+        except AttributeError:
+            self._steps = steps_of(self.path)
+        return self._steps
 
     @property
     def full_path(self) -> str:
@@ -37,30 +62,84 @@ class Match:
     def __eq__(self, other: object) -> bool:
         if not isinstance(other, Match):
             return NotImplemented
-        return (self.path, self.text) == (other.path, other.text)
+        return self._line == other._line
 
     def __hash__(self) -> int:
-        return hash((self.path, self.text))
+        return hash(self._line)
+
+    def __reduce__(self) -> Tuple[Any, ...]:
+        return Match, (self.path, self.text)
 
 
 class Query:
-    """A query that is accepted. It can be kept, and asked of any number of documents."""
+    """A query that is accepted, read once and kept by the engine. It can be asked of any number of documents,
+    from any threads at once. Queries are equal where their texts and their profiles are.
 
-    __slots__ = ("text", "extended")
+    Each call takes a document, a limit of steps, and what `json.dumps` takes as `default`, for a document
+    that is a Python object.
+    """
+
+    __slots__ = ("_kept", "__weakref__")
 
     def __init__(self, text: str, extended: bool = False) -> None:
-        check(text, extended)
-        self.text = text
-        self.extended = extended
+        self._kept = KeptQuery(_query(text), _profile(extended))
 
-    def find(self, document: Document, limit: Optional[int] = None) -> List[Match]:
-        return find(self.text, document, self.extended, limit)
+    @property
+    def text(self) -> str:
+        return self._kept.text
 
-    def paths(self, document: Document, limit: Optional[int] = None) -> List[str]:
-        return paths(self.text, document, self.extended, limit)
+    @property
+    def extended(self) -> bool:
+        return self._kept.profile == _numbers.EXTENDED
 
-    def values(self, document: Document, limit: Optional[int] = None) -> List[Any]:
-        return values(self.text, document, self.extended, limit)
+    def find(
+        self, document: "Asked", limit: Optional[int] = None, default: Default = None
+    ) -> List["Match"]:
+        """The nodes that the query selects, in the order of RFC 9535; one that is selected twice stands
+        there twice. Raises `DocumentError`, and `StepsUsedUp` where there is a limit and the query needs
+        more steps."""
+        return _matches(self._asked(document, _numbers.BOTH, ALL, limit, default))
+
+    def find_one(
+        self, document: "Asked", limit: Optional[int] = None, default: Default = None
+    ) -> Optional["Match"]:
+        """The first of the nodes that `find` gives, or None. The evaluation ends with it."""
+        text = self._asked(document, _numbers.BOTH, _ONE, limit, default)
+        return _match(text[:-1]) if text else None
+
+    def finditer(
+        self, document: "Asked", limit: Optional[int] = None, default: Default = None
+    ) -> Iterator["Match"]:
+        """The nodes that `find` gives, each made when it is asked for. The query is answered, and an error
+        raised, at once."""
+        return map(_match, _each_line(self._asked(document, _numbers.BOTH, ALL, limit, default)))
+
+    def paths(
+        self, document: "Asked", limit: Optional[int] = None, default: Default = None
+    ) -> List[str]:
+        """The normalized paths of the nodes that `find` gives."""
+        return _lines(self._asked(document, _numbers.PATHS, ALL, limit, default))
+
+    def values(
+        self, document: "Asked", limit: Optional[int] = None, default: Default = None
+    ) -> List[Any]:
+        """The values of the nodes that `find` gives, as Python objects."""
+        return _values(self._asked(document, _numbers.VALUES, ALL, limit, default))
+
+    def exists(
+        self, document: "Asked", limit: Optional[int] = None, default: Default = None
+    ) -> bool:
+        """Whether the query selects a node. The evaluation ends with the first."""
+        return self._asked(document, _numbers.PATHS, _ONE, limit, default) != ""
+
+    def _asked(
+        self, document: "Asked", form: int, count: int, limit: Optional[int], default: Default
+    ) -> str:
+        if limit is not None:
+            limit = _limit(limit)
+        if isinstance(document, Document):
+            return self._kept.ask(document._kept, form, count, limit)
+        return self._kept.ask(json_bytes(document, default), form, count, limit)
 
     def __str__(self) -> str:
         return self.text
@@ -68,97 +147,284 @@ class Query:
     def __repr__(self) -> str:
         return f"Query({self.text!r}, extended={self.extended})"
 
+    def __eq__(self, other: object) -> bool:
+        if not isinstance(other, Query):
+            return NotImplemented
+        return (self.text, self.extended) == (other.text, other.extended)
 
-def parse(query: str, extended: bool = False) -> Query:
+    def __hash__(self) -> int:
+        return hash((self.text, self.extended))
+
+    def __reduce__(self) -> Tuple[Any, ...]:
+        return Query, (self.text, self.extended)
+
+
+class Document:
+    """A document that is read once and kept by the engine, with its text. Any number of queries can be asked
+    of it, from any threads; of calls at once over one document each waits for the one before.
+
+    Each call takes a `Query`, or a query's text, the last 64 of which are kept with what was read of them.
+    Raises `DocumentError` where it is refused.
+    """
+
+    __slots__ = ("_kept", "__weakref__")
+
+    def __init__(self, document: "Asked", default: Default = None) -> None:
+        self._kept = KeptDocument(json_bytes(document, default))
+
+    @property
+    def text(self) -> bytes:
+        """The JSON text from which it was read, in UTF-8."""
+        return self._kept.text
+
+    def find(
+        self, query: "Asking", extended: bool = False, limit: Optional[int] = None
+    ) -> List["Match"]:
+        """What `Query.find` gives. Raises `QueryError`, where a text is refused, and `StepsUsedUp`."""
+        return _compiled(query, extended).find(self, limit)
+
+    def find_one(
+        self, query: "Asking", extended: bool = False, limit: Optional[int] = None
+    ) -> Optional["Match"]:
+        """What `Query.find_one` gives. Raises `QueryError`, where a text is refused, and `StepsUsedUp`."""
+        return _compiled(query, extended).find_one(self, limit)
+
+    def finditer(
+        self, query: "Asking", extended: bool = False, limit: Optional[int] = None
+    ) -> Iterator["Match"]:
+        """What `Query.finditer` gives. Raises `QueryError`, where a text is refused, and `StepsUsedUp`."""
+        return _compiled(query, extended).finditer(self, limit)
+
+    def paths(
+        self, query: "Asking", extended: bool = False, limit: Optional[int] = None
+    ) -> List[str]:
+        """What `Query.paths` gives. Raises `QueryError`, where a text is refused, and `StepsUsedUp`."""
+        return _compiled(query, extended).paths(self, limit)
+
+    def values(
+        self, query: "Asking", extended: bool = False, limit: Optional[int] = None
+    ) -> List[Any]:
+        """What `Query.values` gives. Raises `QueryError`, where a text is refused, and `StepsUsedUp`."""
+        return _compiled(query, extended).values(self, limit)
+
+    def exists(
+        self, query: "Asking", extended: bool = False, limit: Optional[int] = None
+    ) -> bool:
+        """What `Query.exists` gives. Raises `QueryError`, where a text is refused, and `StepsUsedUp`."""
+        return _compiled(query, extended).exists(self, limit)
+
+    def __repr__(self) -> str:
+        return f"<Document of {len(self.text)} bytes>"
+
+    def __reduce__(self) -> Tuple[Any, ...]:
+        return Document, (self.text,)
+
+
+# A `str` or `bytes` is JSON text, a `Document` is kept, and anything else is written as JSON.
+Asked = Union[str, bytes, bytearray, memoryview, dict, list, tuple, int, bool, None, Document]
+Asking = Union[str, Query]
+
+
+def compile(query: str, extended: bool = False) -> Query:
     """The query, to be asked of documents. Raises `QueryError` where it is not accepted."""
     return Query(query, extended)
 
 
+def parse(query: str, extended: bool = False) -> Query:
+    """What `compile` gives, by the name that jsonpath-ng has for it."""
+    return Query(query, extended)
+
+
 def find(
-    query: str, document: Document, extended: bool = False, limit: Optional[int] = None
+    query: Asking,
+    document: Asked,
+    extended: bool = False,
+    limit: Optional[int] = None,
+    default: Default = None,
 ) -> List[Match]:
     """The nodes that the query selects, in the order of RFC 9535; one that is selected twice stands
     there twice. Raises `QueryError` or `DocumentError`, the query's first, and `StepsUsedUp` where
     there is a limit and the query needs more steps."""
-    return _matches(_lines(query, document, _engine.BOTH, extended, limit))
+    return _matches(_answer(query, document, _numbers.BOTH, extended, limit, default))
+
+
+def find_one(
+    query: Asking,
+    document: Asked,
+    extended: bool = False,
+    limit: Optional[int] = None,
+    default: Default = None,
+) -> Optional[Match]:
+    """The first of the nodes that `find` gives, or None. The evaluation ends with it."""
+    return _new(query, extended).find_one(document, limit, default)
+
+
+def finditer(
+    query: Asking,
+    document: Asked,
+    extended: bool = False,
+    limit: Optional[int] = None,
+    default: Default = None,
+) -> Iterator[Match]:
+    """The nodes that `find` gives, each made when it is asked for. The query is answered, and an error
+    raised, at once."""
+    return map(_match, _each_line(_answer(query, document, _numbers.BOTH, extended, limit, default)))
 
 
 def find_many(
-    queries: Iterable[str],
-    document: Document,
+    queries: Iterable[Asking],
+    document: Asked,
     extended: bool = False,
     limit: Optional[int] = None,
+    default: Default = None,
 ) -> List[Union[List[Match], QueryError, StepsUsedUp]]:
     """What `find` gives for each query, over one document, each with the whole limit. A query that is
     refused, or needs more steps than the limit, has its error in the list, and ends nothing. Raises
     `DocumentError` where a query that is accepted is asked of what is no document."""
+    if isinstance(queries, (str, Query)):
+        raise TypeError("find_many takes many queries, as a list, and not one: find(query, document)")
+    if isinstance(document, Document):
+        return [_find_or_error(query, document, extended, limit) for query in queries]
+    texts = [_query(query) for query in queries]
     answers = _engine.evaluate_many(
-        list(queries), _json_bytes(document), _engine.BOTH, _profile(extended), _limit(limit)
+        texts, json_bytes(document, default), _numbers.BOTH, _profile(extended), _limit(limit)
     )
-    return [
-        _matches(_split(answer)) if isinstance(answer, str) else answer for answer in answers
-    ]
+    return [_matches(answer) if isinstance(answer, str) else answer for answer in answers]
 
 
 def paths(
-    query: str, document: Document, extended: bool = False, limit: Optional[int] = None
+    query: Asking,
+    document: Asked,
+    extended: bool = False,
+    limit: Optional[int] = None,
+    default: Default = None,
 ) -> List[str]:
     """The normalized paths of the nodes that `find` gives."""
-    return _lines(query, document, _engine.PATHS, extended, limit)
+    return _lines(_answer(query, document, _numbers.PATHS, extended, limit, default))
 
 
 def values(
-    query: str, document: Document, extended: bool = False, limit: Optional[int] = None
+    query: Asking,
+    document: Asked,
+    extended: bool = False,
+    limit: Optional[int] = None,
+    default: Default = None,
 ) -> List[Any]:
     """The values of the nodes that `find` gives, as Python objects."""
-    lines = _lines(query, document, _engine.VALUES, extended, limit)
-    return json.loads(f"[{','.join(lines)}]")
+    return _values(_answer(query, document, _numbers.VALUES, extended, limit, default))
+
+
+def exists(
+    query: Asking,
+    document: Asked,
+    extended: bool = False,
+    limit: Optional[int] = None,
+    default: Default = None,
+) -> bool:
+    """Whether the query selects a node. The evaluation ends with the first."""
+    return _new(query, extended).exists(document, limit, default)
 
 
 def canonical(query: str, extended: bool = False) -> str:
     """The canonical text of the query: equal for equal queries, however they are spelled. Raises
     `QueryError`."""
-    return _engine.canonical(query, _profile(extended))
+    return _engine.canonical(_query(query), _profile(extended))
 
 
 def check(query: str, extended: bool = False) -> None:
     """Raises `QueryError` where the query is not accepted."""
-    _engine.check(query, _profile(extended))
+    _engine.check(_query(query), _profile(extended))
 
 
-def _matches(lines: List[str]) -> List[Match]:
-    return [Match(*line.split("\t", 1)) for line in lines]
+def _answer(
+    query: Asking, document: Asked, form: int, extended: bool, limit: Optional[int], default: Default
+) -> str:
+    """The lines of all nodes."""
+    if isinstance(query, Query) or isinstance(document, Document):
+        return _compiled(query, extended)._asked(document, form, ALL, limit, default)
+    text, profile, steps = _query(query), _profile(extended), _limit(limit)
+    return _engine.evaluate(text, json_bytes(document, default), form, profile, steps)
 
 
-def _profile(extended: bool) -> int:
-    return _engine.EXTENDED if extended else _engine.STANDARD
+def _find_or_error(
+    query: Asking, document: Document, extended: bool, limit: Optional[int]
+) -> Union[List[Match], QueryError, StepsUsedUp]:
+    try:
+        return document.find(query, extended, limit)
+    except (QueryError, StepsUsedUp) as fault:
+        return fault
 
 
-def _limit(limit: Optional[int]) -> Optional[int]:
-    if limit is not None and not 0 < limit < 1 << 64:
-        raise ValueError("a limit is a number of steps, from 1 to 2**64 - 1")
-    return limit
+def _new(query: Asking, extended: bool) -> Query:
+    return query if isinstance(query, Query) else Query(query, extended)
 
 
-def _lines(
-    query: str, document: Document, form: int, extended: bool, limit: Optional[int]
-) -> List[str]:
-    return _split(
-        _engine.evaluate(query, _json_bytes(document), form, _profile(extended), _limit(limit))
-    )
+def _compiled(query: Asking, extended: bool) -> Query:
+    """The query, which may be kept of a call before."""
+    return query if isinstance(query, Query) else _compiled_text(_query(query), _profile(extended))
 
 
-def _split(text: str) -> List[str]:
+@functools.lru_cache(maxsize=64)
+def _compiled_text(text: str, profile: int) -> Query:
+    return Query(text, profile == _numbers.EXTENDED)
+
+
+def _match(line: str) -> Match:
+    match = _bare(Match)
+    match._line = line
+    return match
+
+
+_bare = object.__new__
+
+
+def _matches(text: str) -> List[Match]:
+    # As `_match`, which would cost as much again to call.
+    found = _lines(text)
+    for at, line in enumerate(found):
+        found[at] = match = _bare(Match)
+        match._line = line
+    return found
+
+
+def _lines(text: str) -> List[str]:
     # Each line ends with a newline, which no path and no value has inside.
     return text.split("\n")[:-1]
 
 
-def _json_bytes(document: Document) -> bytes:
-    if isinstance(document, bytes):
-        return document
-    if isinstance(document, (bytearray, memoryview)):
-        return bytes(document)
-    if not isinstance(document, str):
-        document = json.dumps(document, ensure_ascii=False, separators=(",", ":"))
-    # Half of a surrogate pair becomes bytes that are no UTF-8, and so the document is refused.
-    return document.encode("utf-8", "surrogatepass")
+def _each_line(text: str) -> Iterator[str]:
+    start = 0
+    while start < len(text):
+        end = text.index("\n", start)
+        yield text[start:end]
+        start = end + 1
+
+
+def _values(text: str) -> List[Any]:
+    return json.loads(f"[{text[:-1]}]".replace("\n", ","))
+
+
+def _query(query: object) -> str:
+    if isinstance(query, str):
+        return query
+    if isinstance(query, Query):
+        return query.text
+    raise TypeError(f"a query is a str, and no {type(query).__name__}; it comes before the document")
+
+
+def _profile(extended: bool) -> int:
+    if not isinstance(extended, bool):
+        raise TypeError(f"extended is True or False, and no {type(extended).__name__}")
+    return _numbers.EXTENDED if extended else _numbers.STANDARD
+
+
+def _limit(limit: Optional[int]) -> Optional[int]:
+    if limit is None:
+        return None
+    try:
+        number = operator.index(limit)
+    except TypeError:
+        raise TypeError(f"a limit is a number of steps, and no {type(limit).__name__}") from None
+    if not 0 < number < 1 << 64:
+        raise ValueError("a limit is a number of steps, from 1 to 2**64 - 1")
+    return number

@@ -14,7 +14,7 @@ import unittest
 from unittest import mock
 
 import jsonpath_jp as jp
-from jsonpath_jp import _engine
+from jsonpath_jp import _calls, _engine, _kept, _library
 
 STORE = {
     "store": {
@@ -183,7 +183,7 @@ class Refusals(unittest.TestCase):
             ('"\ud800"', "NotJson", None, (1, 1, 2), "NotUtf8"),
             ("[" * 128 + "]" * 128, "NotJson", None, (127, 1, 128), "TooManyLevels"),
             ('{"a":[0,2.5]}', "NotWhole", "$['a'][1]", (8, 1, 9), "HasFraction"),
-            ([1e400], "NotJson", None, (1, 1, 2), "WrongWord"),
+            ([1e400], "NotJson", "$[0]", (None, None, None), None),
             ([0.5], "NotWhole", "$[0]", (1, 1, 2), "HasFraction"),
             ("", "NotJson", None, (0, 1, 1), "Empty"),
         ]:
@@ -219,8 +219,8 @@ class Refusals(unittest.TestCase):
             first = ctypes.c_char.from_buffer(mapped)
             document = ctypes.cast(ctypes.addressof(first), ctypes.c_char_p)
             for text in (b"$", b"$..a"):
-                fault = _engine._answer(
-                    _engine._library.jp_eval, "$", 0, text, len(text), document, size, 0, 0, 0
+                fault = _calls.answer_of(
+                    _library.library.jp_eval, "$", 0, text, len(text), document, size, 0, 0, 0
                 )
                 self.assertIsInstance(fault, jp.DocumentError)
                 self.assertEqual((fault.kind, fault.path, fault.offset), ("DocumentTooLarge", None, None))
@@ -275,7 +275,7 @@ class Limits(unittest.TestCase):
         document = list(range(1000))
         queries = ["$..*", "$[0]", "$[?@<10]"]
         expected = jp.find_many(queries, document)
-        with mock.patch.multiple(_engine, _FIRST_RUN=3, _LEAST_RUN=1):
+        with mock.patch.object(_kept, "FIRST_RUN", 3), mock.patch.object(_engine, "_LEAST_RUN", 1):
             self.assertEqual(jp.find_many(queries, document), expected)
             self.assertEqual([jp.find(query, document) for query in queries], expected)
             self.assertEqual(jp.find("$..*", document, limit=5000), expected[0])
@@ -364,7 +364,7 @@ class Threads(unittest.TestCase):
 
     def test_little_stack_by_handles(self):
         document = list(range(1000))
-        with mock.patch.multiple(_engine, _FIRST_RUN=3, _LEAST_RUN=1):
+        with mock.patch.object(_kept, "FIRST_RUN", 3), mock.patch.object(_engine, "_LEAST_RUN", 1):
             for query in ("$..*", self.DEEP):
                 expected = jp.find_many([query, "$[0]"], document)
                 given = self.on_little_stack(128 << 10, jp.find_many, [query, "$[0]"], document)
@@ -372,15 +372,11 @@ class Threads(unittest.TestCase):
                 self.assertEqual(self.on_little_stack(128 << 10, jp.find, query, document), expected[0])
 
     def test_a_handle_is_cleared_on_little_stack(self):
-        handle, report, text = _engine._Handle(), _engine._Report(), self.DEEP.encode()
-        _engine._library.jp_query_new(text, len(text), 0, handle, report)
-        self.on_little_stack(64 << 10, _engine._library.jp_clear, handle)
+        handle, report, text = _library.Handle(), _library.Report(), self.DEEP.encode()
+        _library.library.jp_query_new(text, len(text), 0, handle, report)
+        self.on_little_stack(64 << 10, _library.library.jp_clear, handle)
         self.assertEqual((report.status, handle.full != 0), (0, True))
-        with mock.patch.object(_engine, "_Handle", lambda: handle):
-            def use():
-                with _engine._handle():
-                    pass
-            self.on_little_stack(64 << 10, use)
+        self.on_little_stack(64 << 10, handle.__del__)
         self.assertEqual(handle.full, 0)
 
     def test_an_interrupt_does_not_wait(self):

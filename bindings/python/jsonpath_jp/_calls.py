@@ -1,0 +1,156 @@
+"""What one call of libjp.so gives, in Python's words: a text, or an error."""
+import ctypes
+import functools
+from typing import Any, Callable, List, Optional, Tuple, Union
+
+from . import _numbers
+from ._errors import DocumentError, QueryError, StepsUsedUp
+from ._library import Place, Report, library
+from ._threads import on_a_thread
+
+_NO_MEMORY_TEXT = "jp ran out of memory"
+_FIRST_ROOM = 1 << 12
+# What takes more bytes than these is not kept from call to call.
+LARGEST_KEPT = 1 << 20
+
+
+class NoStack(Exception):
+    """A call that needs more stack than its thread has left, and has done nothing."""
+
+
+def with_room(function: Callable[..., Any]) -> Callable[..., Any]:
+    """The function, called once more on a thread that has room where a call in it needs more stack."""
+
+    @functools.wraps(function)
+    def on_either(*arguments):
+        try:
+            return function(*arguments)
+        except NoStack:
+            pass
+        return on_a_thread(function, *arguments)
+
+    return on_either
+
+
+class Room:
+    """What a call writes to."""
+
+    def __init__(self, size: int) -> None:
+        self.size = size
+        self.buffer = ctypes.create_string_buffer(size)
+        self.report = Report()
+        self.arguments = (self.buffer, size, ctypes.byref(self.report))
+
+
+# Rooms that no call uses. Taking one out and giving it back is one step each, so neither threads nor
+# signals come between.
+_spare_rooms: List[Room] = []
+
+
+def take_room() -> Room:
+    try:
+        return _spare_rooms.pop()
+    except IndexError:
+        return Room(_FIRST_ROOM)
+
+
+def give_back(room: Room) -> None:
+    if room.size <= LARGEST_KEPT:
+        _spare_rooms.append(room)
+
+
+def told(call, *arguments) -> Tuple[Report, str]:
+    """The report of a call, and the text that it writes. Where the buffer has too little room for the
+    text the call is made again."""
+    room = take_room()
+    call(*arguments, *room.arguments)
+    if room.report.length > room.size:
+        room = Room(room.report.length)
+        call(*arguments, *room.arguments)
+    report = Report.from_buffer_copy(room.report)
+    if report.status == _numbers.NO_STACK:
+        raise NoStack
+    text = ctypes.string_at(room.buffer, report.length).decode()
+    give_back(room)
+    return report, text
+
+
+def answer_of(
+    call, query: str, profile: int, *arguments, document: Optional[bytes] = None
+) -> Union[str, Exception]:
+    """The text that a call writes, or the error in its place. Of a document that is refused that tells
+    where and why, if it is given."""
+    report, text = told(call, *arguments)
+    fault = refusal(report, query, profile, text, document) if report.status else None
+    return text if fault is None else fault
+
+
+def raised(answer: Union[str, Exception]) -> str:
+    """The text, or raises the error."""
+    if isinstance(answer, Exception):
+        raise answer
+    return answer
+
+
+def accepted(call, query: str, profile: int, *arguments) -> None:
+    """Raises the error of a call that writes no text."""
+    report = Report()
+    call(*arguments, report)
+    fault = refusal(report, query, profile, "")
+    if fault is not None:
+        raise fault
+
+
+def refusal(
+    report: Report, query: str, profile: int, text: str, document: Optional[bytes] = None
+) -> Optional[Exception]:
+    """The error that a report tells of."""
+    if report.status == _numbers.QUERY_REFUSED:
+        parts = (_part(query, profile, part) for part in (_numbers.SENTENCE, _numbers.SUGGESTION))
+        return QueryError(_kind_name(_numbers.QUERY_REFUSED, report.kind), report.place, query, *parts)
+    if report.status == _numbers.DOCUMENT_REFUSED:
+        misreading = () if document is None else _misreading(document)
+        return DocumentError(
+            _kind_name(_numbers.DOCUMENT_REFUSED, report.kind), text or None, *misreading
+        )
+    if report.status == _numbers.NO_MEMORY:
+        return MemoryError(_NO_MEMORY_TEXT)
+    if report.status == _numbers.STEPS_USED_UP:
+        return StepsUsedUp(report.steps, query)
+    if report.status == _numbers.NO_STACK:
+        raise NoStack
+    return None
+
+
+@functools.lru_cache(maxsize=None)
+def _kind_name(status: int, kind: int) -> str:
+    report, name = told(library.jp_kind_name, status, kind)
+    if report.status == _numbers.NO_MEMORY:
+        raise MemoryError(_NO_MEMORY_TEXT)
+    return name
+
+
+def _part(query: str, profile: int, part: int) -> Optional[str]:
+    """A part of why the query is refused, or None where nothing is told."""
+    text = encoded(query)
+    return told(library.jp_explain, text, len(text), profile, part)[1] or None
+
+
+def _misreading(document: bytes) -> Tuple[Any, ...]:
+    """Where a document that is refused goes wrong, the name of the reason, and the sentence for it; nothing of
+    one that is too large to be read."""
+    place = Place()
+    texts = []
+    for part in (_numbers.DOCUMENT_REASON, _numbers.DOCUMENT_SENTENCE):
+        report, text = told(library.jp_explain_document, document, len(document), part, place)
+        if report.status == _numbers.NO_MEMORY:
+            raise MemoryError(_NO_MEMORY_TEXT)
+        if report.status != _numbers.DONE:
+            return ()
+        texts.append(text)
+    return place.offset, place.line, place.column, texts[0], texts[1]
+
+
+def encoded(query: str) -> bytes:
+    # Half of a surrogate pair becomes bytes that are no UTF-8, and so the query is refused there.
+    return query.encode("utf-8", "surrogatepass")

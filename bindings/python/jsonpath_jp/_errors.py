@@ -1,0 +1,96 @@
+"""The errors of this package."""
+from typing import Optional
+
+
+class Error(Exception):
+    """What this package raises of its own: `QueryError`, `DocumentError` or `StepsUsedUp`."""
+
+
+class QueryError(Error, ValueError):
+    """A query that is refused.
+
+    kind: the kind of refusal, as "Syntax". place: the byte of the query, in UTF-8, where it goes
+    wrong, from 0. column: the same as an index of `query`. query: its text. sentence: why it is
+    refused, in words; None of a query with half of a surrogate pair. suggestion: a query that is
+    accepted, where it is plain what was meant, else None.
+    """
+
+    def __init__(
+        self,
+        kind: str,
+        place: int,
+        query: str,
+        sentence: Optional[str] = None,
+        suggestion: Optional[str] = None,
+    ) -> None:
+        super().__init__(kind, place, query, sentence, suggestion)
+        self.kind = kind
+        self.place = place
+        self.query = query
+        self.sentence = sentence
+        self.suggestion = suggestion
+
+    @property
+    def column(self) -> int:
+        before = self.query.encode("utf-8", "surrogatepass")[: self.place]
+        return len(before.decode("utf-8", "surrogatepass"))
+
+    def __str__(self) -> str:
+        line = self.query.replace("\n", " ").replace("\t", " ").replace("\r", " ")
+        sentence = "" if self.sentence is None else f"\n{self.sentence}"
+        return f"query refused: {self.kind} at {self.place}\n{line}\n{' ' * self.column}^{sentence}"
+
+
+class DocumentError(Error, ValueError):
+    """A document that is refused.
+
+    kind: what is wrong with it: "NotJson", "NotWhole", "ListTooLong" or "DocumentTooLarge". path: of
+    "NotWhole", the normalized path of the first number that is not a whole one of 64 bits, else None.
+    offset: the byte of the document, in UTF-8, where it goes wrong, from 0. line and column: the same, in
+    characters, both from 1. reason: the name of the reason, as "TrailingComma". sentence: the reason in
+    words. These five are None of "DocumentTooLarge", of which nothing was read.
+
+    Of a Python object that can't be written as JSON, as one with NaN, kind is "NotJson" and sentence says
+    why. path is that of the first such thing in it, and there is no text of which offset, line and column
+    could tell.
+    """
+
+    def __init__(
+        self,
+        kind: str,
+        path: Optional[str] = None,
+        offset: Optional[int] = None,
+        line: Optional[int] = None,
+        column: Optional[int] = None,
+        reason: Optional[str] = None,
+        sentence: Optional[str] = None,
+    ) -> None:
+        super().__init__(kind, path, offset, line, column, reason, sentence)
+        self.kind = kind
+        self.path = path
+        self.offset = offset
+        self.line = line
+        self.column = column
+        self.reason = reason
+        self.sentence = sentence
+
+    def __str__(self) -> str:
+        at = "" if self.path is None else f" at {self.path}"
+        place = "" if self.line is None else f"line {self.line}, column {self.column}: "
+        why = "" if self.sentence is None else f"\n{place}{self.sentence}"
+        return f"document refused: {self.kind}{at}{why}"
+
+
+class StepsUsedUp(Error):
+    """A query that needs more steps over the document than its caller allows.
+
+    limit: how many are allowed. query: its text.
+    """
+
+    def __init__(self, limit: int, query: str) -> None:
+        super().__init__(limit, query)
+        self.limit = limit
+        self.query = query
+
+    def __str__(self) -> str:
+        return f"steps used up: the query needs more than {self.limit}"

@@ -1,0 +1,60 @@
+#!/usr/bin/env python3
+"""Measures what keeping spares, and prints the rows of README.md's table, in microseconds: the least of many runs.
+
+It takes the library that bindings/build put into the package, and jsonpath-ng where it is installed.
+"""
+import json
+import timeit
+
+import jsonpath_jp as jp
+
+BOOKS = 20_000
+
+
+def book(number):
+    return {"category": "fiction", "author": f"Author {number}", "title": f"Title {number}", "price": number % 100}
+
+
+def store(count):
+    return {"store": {"book": [book(number) for number in range(count)]}}
+
+
+def least(call):
+    """The least time of a call, over many runs of a few milliseconds each."""
+    count = max(1, int(0.003 / timeit.timeit(call, number=1)))
+    return min(timeit.repeat(call, number=count, repeat=100)) / count * 1e6
+
+
+def row(name, *calls):
+    print(f"| {name} | " + " | ".join(f"{least(call):,.1f}" for call in calls) + " |", flush=True)
+
+
+def measure_queries():
+    for count in (1, 10):
+        text = json.dumps(store(count)).encode()
+        for query in ("$.store.book[0].title", "$..price", "$.store.book[?@.price<5].title"):
+            kept = jp.compile(query)
+            name = f"`{query}`, {len(text)} bytes"
+            row(name, lambda: jp.find(query, text), lambda: kept.find(text))
+
+
+def measure_documents():
+    whole = store(BOOKS)
+    text = json.dumps(whole).encode()
+    query = "$.store.book[3].title"
+    kept, document = jp.compile(query), jp.Document(text)
+    for name, given in ((f"text of {len(text)} bytes", text), ("an object", whole)):
+        row(f"`{query}`, {name}", lambda: jp.find(query, given), lambda: document.find(kept))
+    row("writing the object", lambda: json.dumps(whole, ensure_ascii=False, separators=(",", ":"), sort_keys=True))
+    try:
+        import jsonpath_ng
+    except ImportError:
+        print("jsonpath-ng is not installed here")
+        return
+    parsed = jsonpath_ng.parse(query)
+    row("jsonpath-ng, parsed before, on the object", lambda: parsed.find(whole))
+
+
+if __name__ == "__main__":
+    measure_queries()
+    measure_documents()

@@ -1,0 +1,133 @@
+"""Python objects as documents, and arguments that are refused. Expected values are by hand."""
+import collections
+import decimal
+import enum
+import unittest
+
+import jsonpath_jp as jp
+
+
+class Number(enum.IntEnum):
+    ONE = 1
+
+
+Point = collections.namedtuple("Point", "x y")
+
+# What `find` and the others are called with, and the words of the TypeError.
+WRONG_TYPES = [
+    (({"a": 1}, "$.a"), "a query is a str, and no dict; it comes before the document"),
+    ((b"$.a", "{}"), "a query is a str, and no bytes; it comes before the document"),
+    ((None, "{}"), "a query is a str, and no NoneType; it comes before the document"),
+    (("$", "[]", 5), "extended is True or False, and no int"),
+    (("$", "[]", False, "5"), "a limit is a number of steps, and no str"),
+    (("$", "[]", False, 1.5), "a limit is a number of steps, and no float"),
+    (("$", {"a": [decimal.Decimal(1)]}),
+     "no JSON is made of a Decimal, as at $['a'][0]: give default=, as to json.dumps"),
+    (("$", [0, {1, 2}]), "no JSON is made of a set, as at $[1]: give default=, as to json.dumps"),
+    (("$", [b"x"]), "no JSON is made of a bytes, as at $[0]: give default=, as to json.dumps"),
+    (("$", {"a": {(1, 2): 3}}), "a key is a str, int, float, bool or None, and no tuple, as at $['a']"),
+]
+
+# Objects that are no document, with the path and the sentence.
+NO_JSON = [
+    ([0, float("nan")], "$[1]", "NaN is no JSON number."),
+    ({"a": float("inf")}, "$['a']", "Infinity is no JSON number."),
+    (float("-inf"), "$", "-Infinity is no JSON number."),
+    ({float("nan"): 0}, "$", "The key NaN is no JSON number."),
+    ([{1: "a", "1": "b"}], "$[0]", "The keys 1 and '1' have one name in JSON, \"1\"."),
+    ({"true": 0, True: 1}, "$", "The keys 'true' and True have one name in JSON, \"true\"."),
+    ({"a": {None: 0, "null": 1}}, "$['a']", "The keys None and 'null' have one name in JSON, \"null\"."),
+    ({"1.5": 0, 1.5: 1}, "$", "The keys '1.5' and 1.5 have one name in JSON, \"1.5\"."),
+]
+
+
+class Objects(unittest.TestCase):
+    def test_objects_that_are_written(self):
+        for document, text in [
+            ({"b": [True, None, "é"], "a": (1, 2)}, '{"a":[1,2],"b":[true,null,"é"]}'),
+            ({1: 2}, '{"1":2}'),
+            ({None: 1, 2: 3, True: 4}, '{"2":3,"null":1,"true":4}'),
+            ([Number.ONE, Point(1, 2)], "[1,[1,2]]"),
+            (collections.OrderedDict(b=1), '{"b":1}'),
+        ]:
+            (match,) = jp.find("$", document)
+            self.assertEqual(match.text, text)
+
+    def test_default(self):
+        document = {"a": decimal.Decimal("1.5"), "b": [{3}]}
+
+        def default(it):
+            return sorted(it) if isinstance(it, set) else str(it)
+
+        text = '{"a":"1.5","b":[[3]]}'
+        query = jp.compile("$")
+        self.assertEqual(jp.find("$", document, default=default)[0].text, text)
+        self.assertEqual(query.find(document, default=default)[0].text, text)
+        self.assertEqual(query.find_one(document, default=default).text, text)
+        self.assertEqual(jp.Document(document, default=default).text, text.encode())
+        self.assertEqual(jp.find_many(["$"], document, default=default)[0][0].text, text)
+        self.assertEqual(jp.find("$", {2: decimal.Decimal(1), None: 0}, default=str)[0].text, '{"2":"1","null":0}')
+        with self.assertRaises(jp.DocumentError) as caught:
+            jp.find("$", [{3}], default=lambda it: {"1": 0, 1: 0})
+        self.assertEqual(caught.exception.path, "$[0]")
+        with self.assertRaisesRegex(ZeroDivisionError, "division"):
+            jp.find("$", [{3}], default=lambda it: 1 // 0)
+
+    def test_objects_that_are_no_json(self):
+        for document, path, sentence in NO_JSON:
+            for call in (jp.find, jp.compile("$").find, lambda *words: jp.Document(words[-1])):
+                words = ("$", document) if call is jp.find else (document,)
+                with self.subTest(document=str(document)):
+                    with self.assertRaises(jp.DocumentError) as caught:
+                        call(*words)
+                    fault = caught.exception
+                    self.assertEqual((fault.kind, fault.path, fault.sentence), ("NotJson", path, sentence))
+                    self.assertEqual((fault.offset, fault.line, fault.column, fault.reason), (None,) * 4)
+                    self.assertEqual(str(fault), f"document refused: NotJson at {path}\n{sentence}")
+
+    def test_objects_that_are_too_deep(self):
+        document = []
+        for _ in range(100_000):
+            document = [document]
+        with self.assertRaises(jp.DocumentError) as caught:
+            jp.find("$", document)
+        self.assertEqual((caught.exception.kind, caught.exception.reason), ("NotJson", "TooManyLevels"))
+        while document:
+            document = document[0]
+        document.append(document)
+        with self.assertRaisesRegex(ValueError, "Circular"):
+            jp.find("$", document)
+
+
+class Arguments(unittest.TestCase):
+    def test_wrong_types(self):
+        for words, sentence in WRONG_TYPES:
+            for call in (jp.find, jp.find_one, jp.finditer, jp.paths, jp.values, jp.exists):
+                with self.subTest(words=str(words), call=call.__name__):
+                    with self.assertRaises(TypeError) as caught:
+                        call(*words)
+                    self.assertEqual(str(caught.exception), sentence)
+
+    def test_wrong_types_of_other_calls(self):
+        kept = jp.Document([])
+        for call in (jp.compile, jp.parse, jp.check, jp.canonical, kept.find, kept.exists):
+            with self.assertRaisesRegex(TypeError, "a query is a str, and no dict"):
+                call({})
+        for wrong in ("$.a", jp.compile("$.a")):
+            with self.assertRaisesRegex(TypeError, "many queries"):
+                jp.find_many(wrong, "{}")
+        with self.assertRaisesRegex(TypeError, "and no dict"):
+            jp.find_many(["$", {}], "{}")
+        with self.assertRaisesRegex(TypeError, "no JSON is made of a Query"):
+            jp.find("$", jp.compile("$"))
+        with self.assertRaisesRegex(TypeError, "a limit is a number"):
+            jp.compile("$").find([], limit="1")
+        with self.assertRaises(ValueError):
+            kept.find("$", limit=0)
+
+    def test_a_limit_as_whole_numbers_are(self):
+        self.assertEqual(jp.values("$", [1], limit=Number.ONE), [[1]])
+
+
+if __name__ == "__main__":
+    unittest.main()
