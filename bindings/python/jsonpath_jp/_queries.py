@@ -6,7 +6,7 @@ from typing import Any, Iterable, Iterator, List, Optional, Tuple, Union
 
 from . import _engine, _numbers
 from ._documents import Default, json_bytes
-from ._errors import QueryError, StepsUsedUp
+from ._errors import DocumentError, QueryError, StepsUsedUp
 from ._kept import ALL, KeptDocument, KeptQuery
 from ._paths import Step, steps_of
 
@@ -256,7 +256,7 @@ def find_one(
     default: Default = None,
 ) -> Optional[Match]:
     """The first of the nodes that `find` gives, or None. The evaluation ends with it."""
-    return _new(query, extended).find_one(document, limit, default)
+    return _new(query, document, extended).find_one(document, limit, default)
 
 
 def finditer(
@@ -280,7 +280,8 @@ def find_many(
 ) -> List[Union[List[Match], QueryError, StepsUsedUp]]:
     """What `find` gives for each query, over one document, each with the whole limit. A query that is
     refused, or needs more steps than the limit, has its error in the list, and ends nothing. Raises
-    `DocumentError` where a query that is accepted is asked of what is no document."""
+    `DocumentError` where a query that is accepted is asked of what is no document, and where an object
+    is none."""
     if isinstance(queries, (str, Query)):
         raise TypeError("find_many takes many queries, as a list, and not one: find(query, document)")
     if isinstance(document, Document):
@@ -322,7 +323,7 @@ def exists(
     default: Default = None,
 ) -> bool:
     """Whether the query selects a node. The evaluation ends with the first."""
-    return _new(query, extended).exists(document, limit, default)
+    return _new(query, document, extended).exists(document, limit, default)
 
 
 def canonical(query: str, extended: bool = False) -> str:
@@ -343,7 +344,23 @@ def _answer(
     if isinstance(query, Query) or isinstance(document, Document):
         return _compiled(query, extended)._asked(document, form, ALL, limit, default)
     text, profile, steps = _query(query), _profile(extended), _limit(limit)
-    return _engine.evaluate(text, json_bytes(document, default), form, profile, steps)
+    try:
+        return _engine.evaluate(text, json_bytes(document, default), form, profile, steps)
+    except DocumentError:
+        # Of an object that is no JSON the engine was not asked, and the query is told of first.
+        _engine.check(text, profile)
+        raise
+    except QueryError as fault:
+        raise _in_order(fault, document) from None
+
+
+def _in_order(fault: QueryError, document: Asked) -> QueryError:
+    """The error, which says so where the document looks like the query."""
+    start = {str: "$", bytes: b"$"}.get(type(document))
+    if fault.place != 0 or start is None or not document.startswith(start):
+        return fault
+    sentence = f"{fault.sentence} The query comes before the document."
+    return QueryError(fault.kind, fault.place, fault.query, sentence, fault.suggestion)
 
 
 def _find_or_error(
@@ -355,8 +372,11 @@ def _find_or_error(
         return fault
 
 
-def _new(query: Asking, extended: bool) -> Query:
-    return query if isinstance(query, Query) else Query(query, extended)
+def _new(query: Asking, document: Asked, extended: bool) -> Query:
+    try:
+        return query if isinstance(query, Query) else Query(query, extended)
+    except QueryError as fault:
+        raise _in_order(fault, document) from None
 
 
 def _compiled(query: Asking, extended: bool) -> Query:

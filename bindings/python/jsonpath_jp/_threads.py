@@ -49,6 +49,18 @@ def on_a_thread(function: Callable[..., Any], *arguments: Any) -> Any:
     if is_roomy():
         return function(*arguments)
     thread = _Roomy(function, arguments)
+    try:
+        _start(thread)
+        thread.join()
+    except BaseException:
+        thread.is_left = True
+        raise
+    if thread.fault is not None:
+        raise thread.fault
+    return thread.given
+
+
+def _start(thread: _Roomy) -> None:
     with _starting:
         before = threading.stack_size(_STACK)
         try:
@@ -57,14 +69,6 @@ def on_a_thread(function: Callable[..., Any], *arguments: Any) -> Any:
             raise MemoryError("jp found no memory for a thread with more stack") from None
         finally:
             threading.stack_size(before)
-    try:
-        thread.join()
-    except BaseException:
-        thread.is_left = True
-        raise
-    if thread.fault is not None:
-        raise thread.fault
-    return thread.given
 
 
 def is_roomy() -> bool:

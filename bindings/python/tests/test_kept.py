@@ -223,7 +223,7 @@ class Runs(unittest.TestCase):
 
     def test_ctrl_c(self):
         for call in ("query.find(text)", "document.find(query)"):
-            for wait in (0.05, 3):
+            for wait in (0.05, 2):
                 with self.subTest(call=call, wait=wait):
                     said, took = self.interrupted(call, wait)
                     # The call that follows does not wait either, and nothing is said at the end.

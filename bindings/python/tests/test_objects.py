@@ -108,6 +108,21 @@ class Arguments(unittest.TestCase):
                         call(*words)
                     self.assertEqual(str(caught.exception), sentence)
 
+    def test_a_document_before_the_query(self):
+        for document in ("$.a", b"$.a"):
+            for call in (jp.find, jp.find_one, jp.finditer, jp.paths, jp.values, jp.exists):
+                with self.assertRaises(jp.QueryError) as caught:
+                    call("[1]", document)
+                self.assertTrue(str(caught.exception).endswith(" The query comes before the document."))
+        with self.assertRaises(jp.QueryError) as caught:
+            jp.find("$[", "$")
+        self.assertNotIn("comes before", caught.exception.sentence)
+
+    def test_the_query_first(self):
+        for call in (jp.find, jp.find_one, jp.finditer, jp.paths, jp.values, jp.exists):
+            with self.assertRaises(jp.QueryError):
+                call("$[", [float("nan")])
+
     def test_wrong_types_of_other_calls(self):
         kept = jp.Document([])
         for call in (jp.compile, jp.parse, jp.check, jp.canonical, kept.find, kept.exists):
