@@ -1,8 +1,14 @@
-"""The rows of the standard, as they stand in jp_command's table, by the calls of Python."""
+"""The rows of the standard, as they stand in jp_command's table, and seeded programs, by the calls of Python."""
+import json
+import os
+import subprocess
+import sys
 import unittest
 
 import jsonpath_jp as jp
-from rows import Row, rows
+from rows import ROOT, Row, rows
+
+COMPARE = os.path.join(ROOT, "bindings", "compare")
 
 
 def by_kept_query(query, document, extended):
@@ -37,6 +43,42 @@ class Rows(unittest.TestCase):
                     self.assertEqual(given(row, find), (row.kind, row.given))
             count += 1
         self.assertGreater(count, 600)
+
+
+def told(find, *words):
+    """What a way to ask gives, or all that its error tells."""
+    try:
+        return [(match.path, match.text) for match in find(*words)]
+    except jp.Error as fault:
+        return type(fault), fault.args
+
+
+class Programs(unittest.TestCase):
+    def test_what_is_kept_answers_as_find_does(self):
+        words = [sys.executable, COMPARE, "--rows", "2000"]
+        said = subprocess.run(words, capture_output=True, text=True, check=True).stdout
+        count = 0
+        for line in said.splitlines():
+            document, query, extended = json.loads(line)[:3]
+            with self.subTest(query=query, document=document, extended=extended):
+                expected = told(jp.find, query, document, extended)
+                self.assertEqual(told(by_kept_query, query, document, extended), expected)
+                self.assertEqual(told(by_kept_document, query, document, extended), expected)
+                if isinstance(expected, list):
+                    self.assert_again(jp.compile(query, extended), document, expected)
+                    count += 1
+        self.assertGreater(count, 1000)
+
+    def assert_again(self, query, document, expected):
+        """What a kept query answers does not go by what it was asked before."""
+        for other in ("[]", '{"a":[1,{"b":"é"}],"b":{"a":2}}', "[1,", "[0.5]"):
+            told(query.find, other)
+            self.assertEqual(told(query.find, document), expected)
+        first = query.find_one(document)
+        self.assertEqual([] if first is None else [(first.path, first.text)], expected[:1])
+        self.assertEqual(query.exists(document), expected != [])
+        self.assertEqual(query.paths(document), [path for path, _ in expected])
+        self.assertEqual(query.values(document), [json.loads(text) for _, text in expected])
 
 
 if __name__ == "__main__":
