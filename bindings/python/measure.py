@@ -7,6 +7,7 @@ import json
 import timeit
 
 import jsonpath_jp as jp
+from jsonpath_jp._documents import json_bytes
 
 BOOKS = 20_000
 
@@ -19,14 +20,17 @@ def store(count):
     return {"store": {"book": [book(number) for number in range(count)]}}
 
 
-def least(call):
-    """The least time of a call, over many runs of a few milliseconds each."""
-    count = max(1, int(0.003 / timeit.timeit(call, number=1)))
-    return min(timeit.repeat(call, number=count, repeat=100)) / count * 1e6
+def least(calls):
+    """The least time of each call, over many runs of a few milliseconds each, by turns."""
+    counts = [max(1, int(0.002 / timeit.timeit(call, number=1))) for call in calls]
+    rounds = [
+        [timeit.timeit(call, number=count) / count for call, count in zip(calls, counts)] for _ in range(100)
+    ]
+    return [min(times) * 1e6 for times in zip(*rounds)]
 
 
 def row(name, *calls):
-    print(f"| {name} | " + " | ".join(f"{least(call):,.1f}" for call in calls) + " |", flush=True)
+    print(f"| {name} | " + " | ".join(f"{time:,.1f}" for time in least(calls)) + " |", flush=True)
 
 
 def measure_queries():
@@ -43,9 +47,8 @@ def measure_documents():
     text = json.dumps(whole).encode()
     query = "$.store.book[3].title"
     kept, document = jp.compile(query), jp.Document(text)
-    for name, given in ((f"text of {len(text)} bytes", text), ("an object", whole)):
-        row(f"`{query}`, {name}", lambda: jp.find(query, given), lambda: document.find(kept))
-    row("writing the object", lambda: json.dumps(whole, ensure_ascii=False, separators=(",", ":"), sort_keys=True))
+    row(f"`{query}`, a text of {len(text)} bytes", lambda: jp.find(query, text), lambda: document.find(kept))
+    row("the same as an object, and writing it", lambda: jp.find(query, whole), lambda: json_bytes(whole))
     try:
         import jsonpath_ng
     except ImportError:
