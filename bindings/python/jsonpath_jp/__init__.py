@@ -6,6 +6,14 @@
     >>> jp.paths("$.a[-1]", {"a": [1, 2]})
     ["$['a'][1]"]
 
+A query that is asked more than once is kept, and so is a document:
+
+    >>> query, document = jp.compile("$..price"), jp.Document('{"a":[{"price":9},{"price":12}]}')
+    >>> query.values({"price": 7}), query.values(document), document.exists("$.b")
+    ([7], [9, 12], False)
+    >>> query.find_one(document).steps
+    ['a', 0, 'price']
+
 A document is JSON text, as `str` or `bytes`, or a Python object, which is written as JSON first. Its
 numbers are whole numbers of 64 bits, and are given back exactly. `extended=True` lets a query call
 `distinct`, which RFC 9535 does not have.

@@ -9,7 +9,7 @@ from ._calls import (
 from ._errors import QueryError, StepsUsedUp
 from ._kept import ALL, KeptDocument, KeptQuery, is_short, runs
 from ._library import Question, library
-from ._threads import is_left, on_a_thread
+from ._threads import is_left, waited_for
 
 # The least steps of the first runs of many queries, which have as many together as that of one.
 _LEAST_RUN = 1 << 12
@@ -25,7 +25,7 @@ def evaluate(query: str, document: bytes, form: int, profile: int, limit: Option
     arguments = (text, len(text), document, len(document), form, profile, next(each))
     answer = answer_of(library.jp_eval, query, profile, *arguments, document=document)
     if is_short(answer, limit):
-        answer = on_a_thread(_evaluate_longer, query, document, form, profile, each)
+        answer = waited_for(_evaluate_longer, query, document, form, profile, each)
     return raised(answer)
 
 
@@ -42,7 +42,7 @@ def evaluate_many(
     first = max(_kept.FIRST_RUN // max(len(queries), 1), _LEAST_RUN)
     answers = _first_answers(queries, document, form, profile, next(runs(first, limit)))
     if any(is_short(answer, limit) for answer in answers):
-        return on_a_thread(_answer_late, queries, answers, document, form, profile, 2 * first, limit)
+        return waited_for(_answer_late, queries, answers, document, form, profile, 2 * first, limit)
     return answers
 
 

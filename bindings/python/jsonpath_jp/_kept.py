@@ -11,7 +11,7 @@ from . import _numbers
 from ._calls import LARGEST_KEPT, NoStack, accepted, answer_of, encoded, raised, refusal, with_room
 from ._errors import Error, StepsUsedUp
 from ._library import Handle, Report, Text, library
-from ._threads import forks, is_left, on_a_thread
+from ._threads import forks, is_left, on_a_thread, waited_for
 
 # The steps of the first run of a query, which take less than a second.
 FIRST_RUN = 1 << 24
@@ -130,7 +130,7 @@ class KeptQuery:
         if not is_short(answer, limit):
             return raised(answer)
         try:
-            return raised(on_a_thread(self.go_on, document, form, count, runs(2 * FIRST_RUN, limit)))
+            return raised(waited_for(self.go_on, document, form, count, runs(2 * FIRST_RUN, limit)))
         except (Error, MemoryError):
             raise
         except BaseException:

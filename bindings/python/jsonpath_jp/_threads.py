@@ -25,6 +25,10 @@ if hasattr(os, "register_at_fork"):
     )
 
 
+class NoThread(MemoryError):
+    """There is no memory for another thread, or Python ends."""
+
+
 class _Roomy(threading.Thread):
     """A thread with room for each call, which calls a function."""
 
@@ -60,13 +64,23 @@ def on_a_thread(function: Callable[..., Any], *arguments: Any) -> Any:
     return thread.given
 
 
+def waited_for(function: Callable[..., Any], *arguments: Any) -> Any:
+    """What the function gives or raises, called on a thread of its own, so that an interrupt does not wait for it;
+    or on this one, where no other can be started."""
+    try:
+        return on_a_thread(function, *arguments)
+    except NoThread:
+        pass
+    return function(*arguments)
+
+
 def _start(thread: _Roomy) -> None:
     with _starting:
         before = threading.stack_size(_STACK)
         try:
             thread.start()
         except RuntimeError:
-            raise MemoryError("jp found no memory for a thread with more stack") from None
+            raise NoThread("jp found no memory for a thread with more stack") from None
         finally:
             threading.stack_size(before)
 

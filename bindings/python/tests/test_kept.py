@@ -190,6 +190,15 @@ class Runs(unittest.TestCase):
                             query.find(document, limit=limit)
                         self.assertEqual(caught.exception.limit, limit)
 
+    def test_where_no_thread_can_be_started(self):
+        numbers = list(range(1000))
+        no_thread = mock.patch.object(threading.Thread, "start", side_effect=RuntimeError)
+        with no_thread as start, mock.patch.object(_kept, "FIRST_RUN", 3):
+            for document in (numbers, jp.Document(numbers)):
+                self.assertEqual(jp.compile("$[?@<3]").values(document), [0, 1, 2])
+                self.assertEqual(jp.values("$[?@<3]", document), [0, 1, 2])
+            self.assertEqual(start.call_count, 4)
+
     def interrupted(self, call, wait):
         """What a program says whose call is interrupted after so many seconds, and how long that took."""
         # A run in the background of a shell ignores the signal, and so would the child.
