@@ -1,106 +1,116 @@
 /**
- * The calls of jp.wasm, of which bindings/c/jp.h says what a caller owes.
- *
- * An address and a length are BigInts, since the module's memory has addresses of 64 bits. Views of that
- * memory are made anew after each call, since it moves when it grows. This file needs nothing of Node,
- * so that a page can take it as it is.
+ * What is asked of jp.wasm: queries that are kept, of bytes or of a document that is kept. This file needs nothing
+ * of Node, so that a page can take it as it is.
  */
 
-import { DOCUMENT_REASON, DOCUMENT_SENTENCE, NO_LIMIT, NO_MEMORY, SENTENCE, SUGGESTION } from "./numbers.mjs";
+import { Instance, NO_MEMORY_TEXT } from "./instance.mjs";
+import { DOCUMENT_REASON, DOCUMENT_SENTENCE, DONE, NO_LIMIT, NO_MEMORY, SENTENCE, SUGGESTION } from "./numbers.mjs";
+import { textOf } from "./texts.mjs";
 
-export const NO_MEMORY_TEXT = "jp ran out of memory";
+/** All nodes, where a call is told how many are asked for. */
+export const ALL = 0n;
 
-const REPORT_LENGTH = 32;
-const PLACE_LENGTH = 24;
-const FIRST_ROOM = 1 << 12;
+// An instance that took so many bytes more than it needs for what it keeps is let go, since its memory never shrinks.
+const SPARE = 1 << 26;
 
-const encoder = new TextEncoder();
-const decoder = new TextDecoder("utf-8", { ignoreBOM: true });
-
-/** The UTF-8 of a text. Half of a surrogate pair becomes bytes that are none, and so is refused. */
-export function bytesOf(text) {
-  if (text.isWellFormed()) {
-    return encoder.encode(text);
+/** A query's bytes and profile, which engines that are asked it read once and keep as long as this is. */
+export class KeptQuery {
+  constructor(bytes, profile) {
+    this.bytes = bytes;
+    this.profile = profile;
   }
-  const parts = text.split(/(\p{Surrogate})/u).map((part) => {
-    const code = part.length === 1 ? part.charCodeAt(0) : 0;
-    const isHalf = code >= 0xd800 && code <= 0xdfff;
-    return isHalf ? [0xed, 0x80 | ((code >> 6) & 0x3f), 0x80 | (code & 0x3f)] : [...encoder.encode(part)];
-  });
-  return Uint8Array.from(parts.flat());
 }
 
-/** The text of bytes that the module wrote. */
-export function textOf(bytes) {
-  return decoder.decode(bytes);
-}
-
-/** The index, in a text, of the character that begins at a byte of the text's UTF-8. */
-export function indexAt(text, place) {
-  let index = 0;
-  let bytes = 0;
-  for (const character of text) {
-    if (bytes >= place) {
-      break;
-    }
-    bytes += lengthInUtf8(character.codePointAt(0));
-    index += character.length;
+/** A document's bytes, which are not to change. An engine that is asked of it reads it once and keeps it likewise. */
+export class KeptDocument {
+  constructor(bytes) {
+    this.bytes = bytes;
   }
-  return index;
-}
-
-function lengthInUtf8(code) {
-  if (code < 0x80) {
-    return 1;
-  }
-  if (code < 0x800) {
-    return 2;
-  }
-  return code < 0x10000 ? 3 : 4;
 }
 
 /**
- * An instance of the module.
+ * An instance of the module, with the queries and the documents that it keeps.
  *
- * Each call gives an outcome: `status`, `kind`, `place` and `steps` as in jp.h, `steps` as a BigInt, and
- * `text`, the bytes that were written, which are the module's own memory and so good until the next call.
+ * The instance is made by the first call that needs one. It is let go where it took much memory or ran out of it,
+ * and where a call ended without an outcome; what it kept is then read anew when it is asked for. Calls give the
+ * outcomes of instance.mjs, whose texts are good until the next call.
  */
 export class Engine {
   #module;
-  #exports;
-  #report;
-  #place;
-  #room;
-  #roomLength;
+  #instance = null;
+  #first = 0;
+  #most = 0;
+  #documents = 0;
+  #handles;
+  #registry;
+  #passing;
+  #passed;
 
   constructor(module) {
     this.#module = module;
-    this.#start();
+  }
+
+  /** How many bytes of memory its instance has; 0 without one. */
+  get size() {
+    return this.#instance?.size ?? 0;
   }
 
   /** The version, as "0.1.0". */
   version() {
-    const number = this.#exports.jp_version();
+    const number = this.#running().exports.jp_version();
     return `${number >> 16}.${(number >> 8) & 255}.${number & 255}`;
   }
 
-  /** The lines of the nodes that the query selects in the document, in so many steps at most, a BigInt. */
-  evaluate(query, document, form, profile, limit = NO_LIMIT) {
-    return this.#answer([query, document], (texts) =>
-      this.#exports.jp_eval(...texts, form, profile, limit, this.#room, BigInt(this.#roomLength), this.#report),
-    );
+  /** Reads a `KeptQuery` or a `KeptDocument`, and keeps it from then on, unless it is refused. */
+  keep(kept) {
+    return this.#run((instance) => this.#handleOf(instance, kept).outcome);
+  }
+
+  /** Frees what is kept of it. */
+  forget(kept) {
+    const handle = this.#instance === null ? undefined : this.#handles.get(kept);
+    if (handle !== undefined) {
+      this.#handles.delete(kept);
+      this.#registry.unregister(kept);
+      this.#run((instance) => this.#free(instance, handle, kept instanceof KeptDocument));
+    }
+  }
+
+  /**
+   * The lines of the nodes that the query selects in the document, a `KeptDocument` or bytes: of the first ones, as
+   * many as `count` says, made in so many steps at most, both BigInts. The query is a `KeptQuery`, or has the same
+   * members and is kept until another such is asked.
+   */
+  ask(query, document, form, count = ALL, limit = NO_LIMIT) {
+    return this.#run((instance) => {
+      const { jp_ask, jp_ask_document } = instance.exports;
+      const asked = this.#handleOf(instance, query);
+      if (asked.handle === null) {
+        return asked.outcome;
+      }
+      const words = [form, count, limit];
+      if (!(document instanceof KeptDocument)) {
+        return instance.lend([document], (bytes, told) => jp_ask(asked.handle, ...bytes, ...words, ...told));
+      }
+      const read = this.#handleOf(instance, document);
+      return read.handle === null
+        ? read.outcome
+        : instance.lend([], (_, told) => jp_ask_document(asked.handle, read.handle, ...words, ...told));
+    });
   }
 
   /** The canonical text of the query. */
   canonical(query, profile) {
-    return this.#answer([query], (texts) =>
-      this.#exports.jp_canon(...texts, profile, this.#room, BigInt(this.#roomLength), this.#report),
+    return this.#run((instance) =>
+      instance.write([query], (bytes, told) => instance.exports.jp_canon(...bytes, profile, ...told)),
     );
   }
 
   /** Whether the query is accepted. */
   check(query, profile) {
-    return this.#answer([query], (texts) => this.#exports.jp_check(...texts, profile, this.#report));
+    return this.#run((instance) =>
+      instance.write([query], (bytes, [, , report]) => instance.exports.jp_check(...bytes, profile, report)),
+    );
   }
 
   /**
@@ -109,8 +119,8 @@ export class Engine {
    */
   explain(query, profile) {
     const [sentence, suggestion] = [SENTENCE, SUGGESTION].map((part) => {
-      const { text } = this.#answer([query], (texts) =>
-        this.#exports.jp_explain(...texts, profile, part, this.#room, BigInt(this.#roomLength), this.#report),
+      const { text } = this.#run((instance) =>
+        instance.write([query], (bytes, told) => instance.exports.jp_explain(...bytes, profile, part, ...told)),
       );
       return textOf(text) || null;
     });
@@ -122,96 +132,114 @@ export class Engine {
    * the reason; and `sentence`.
    */
   explainDocument(document) {
+    let place;
     const [reason, sentence] = [DOCUMENT_REASON, DOCUMENT_SENTENCE].map((part) => {
-      const { status, text } = this.#answer([document], (texts) =>
-        this.#exports.jp_explain_document(
-          ...texts, part, this.#place, this.#room, BigInt(this.#roomLength), this.#report,
-        ),
-      );
+      const { status, text } = this.#run((instance) => {
+        const call = (bytes, told) =>
+          instance.exports.jp_explain_document(...bytes, part, instance.placeAddress, ...told);
+        const outcome = instance.write([document], call);
+        place = instance.placeTold();
+        return outcome;
+      });
       if (status === NO_MEMORY) {
         throw new RangeError(NO_MEMORY_TEXT);
       }
       return textOf(text);
     });
-    const place = new DataView(this.#exports.memory.buffer, Number(this.#place), PLACE_LENGTH);
-    const [offset, line, column] = [0, 8, 16].map((at) => Number(place.getBigUint64(at, true)));
-    return { offset, line, column, reason, sentence };
+    return { ...place, reason, sentence };
   }
 
   /** The name of a kind that an outcome of that status has. */
   kindName(status, kind) {
-    const { text } = this.#answer([], () =>
-      this.#exports.jp_kind_name(status, kind, this.#room, BigInt(this.#roomLength), this.#report),
+    const { text } = this.#run((instance) =>
+      instance.write([], (_, told) => instance.exports.jp_kind_name(status, kind, ...told)),
     );
     return textOf(text);
   }
 
+  #running() {
+    return this.#instance ?? this.#start();
+  }
+
   #start() {
-    this.#exports = new WebAssembly.Instance(this.#module).exports;
-    this.#report = this.#allocate(REPORT_LENGTH);
-    this.#place = this.#allocate(PLACE_LENGTH);
-    this.#room = this.#allocate(FIRST_ROOM);
-    this.#roomLength = FIRST_ROOM;
+    const instance = new Instance(this.#module);
+    this.#handles = new WeakMap();
+    this.#registry = new FinalizationRegistry(({ handle, isDocument }) => {
+      // What was let go may hold nothing that can be freed.
+      if (this.#instance === instance) {
+        this.#run(() => this.#free(instance, handle, isDocument));
+      }
+    });
+    this.#passing = instance.newHandle();
+    this.#passed = null;
+    this.#first = instance.size;
+    this.#most = this.#first + SPARE;
+    this.#documents = 0;
+    this.#instance = instance;
+    return instance;
   }
 
-  #allocate(length) {
-    const at = this.#exports.jp_alloc(BigInt(length));
-    if (at === 0n) {
-      throw new RangeError(NO_MEMORY_TEXT);
-    }
-    return at;
-  }
-
-  #view(at, length) {
-    return new Uint8Array(this.#exports.memory.buffer, Number(at), length);
-  }
-
-  #copy(bytes) {
-    const at = this.#allocate(bytes.length);
-    this.#view(at, bytes.length).set(bytes);
-    return at;
-  }
-
-  /** What a call answers, called again where the room is too small for its text. */
-  #answer(texts, call) {
-    const copies = [];
+  /** The outcome of a call, after which the instance is let go if it may not be used any further. */
+  #run(call) {
+    let outcome;
     try {
-      for (const bytes of texts) {
-        copies.push(this.#copy(bytes), BigInt(bytes.length));
-      }
-      call(copies);
-      if (this.#outcome().length > this.#roomLength) {
-        this.#enlarge(this.#outcome().length);
-        call(copies);
-      }
+      outcome = call(this.#running());
     } catch (fault) {
-      // Where the host's own stack or memory ran out, what the instance holds means nothing.
-      this.#start();
+      // Where the host's own stack or memory ran out, what the instance holds means nothing. No call is made here,
+      // for which there may be no stack.
+      this.#instance = this.#registry = null;
       throw fault;
     }
-    copies.filter((_, position) => position % 2 === 0).forEach((at) => this.#exports.jp_free(at));
-    const { length, ...outcome } = this.#outcome();
-    if (outcome.status === NO_MEMORY) {
-      // The memory never shrinks, so one that was filled is let go.
-      this.#start();
+    if (outcome.status === NO_MEMORY || this.size > this.#most) {
+      this.#instance = this.#registry = null;
     }
-    return { ...outcome, text: this.#view(this.#room, Math.min(length, this.#roomLength)) };
+    return outcome;
   }
 
-  #enlarge(length) {
-    this.#exports.jp_free(this.#room);
-    this.#room = this.#allocate(length);
-    this.#roomLength = length;
+  /** The handle that keeps it, null if it is refused, and the outcome of reading it where it was read. */
+  #handleOf(instance, kept) {
+    const known = kept === this.#passed ? this.#passing : this.#handles.get(kept);
+    if (known !== undefined) {
+      return { handle: known, outcome: null };
+    }
+    const isDocument = kept instanceof KeptDocument;
+    const isPassing = !isDocument && !(kept instanceof KeptQuery);
+    const handle = isPassing ? this.#passing : instance.newHandle();
+    const before = instance.size;
+    const outcome = isDocument ? readDocument(instance, kept, handle) : readQuery(instance, kept, handle);
+    const isAccepted = outcome.status === DONE;
+    if (isPassing) {
+      this.#passed = isAccepted ? kept : null;
+    } else if (isAccepted) {
+      this.#handles.set(kept, handle);
+      this.#registry.register(kept, { handle, isDocument }, kept);
+    } else {
+      instance.freeHandle(handle);
+    }
+    if (isDocument && isAccepted) {
+      this.#documents += 1;
+      this.#most += instance.size - before;
+    }
+    return { handle: isAccepted ? handle : null, outcome };
   }
 
-  #outcome() {
-    const report = new DataView(this.#exports.memory.buffer, Number(this.#report), REPORT_LENGTH);
-    return {
-      status: report.getUint32(0, true),
-      kind: report.getUint32(4, true),
-      place: Number(report.getBigUint64(8, true)),
-      length: Number(report.getBigUint64(16, true)),
-      steps: report.getBigUint64(24, true),
-    };
+  /** Frees a handle; where no document is kept any more, no memory is needed for one. */
+  #free(instance, handle, isDocument) {
+    instance.freeHandle(handle);
+    this.#documents -= isDocument ? 1 : 0;
+    if (this.#documents === 0) {
+      this.#most = this.#first + SPARE;
+    }
+    return { status: DONE };
   }
+}
+
+function readQuery(instance, { bytes, profile }, handle) {
+  return instance.write([bytes], (query, [, , report]) =>
+    instance.exports.jp_query_new(...query, profile, handle, report),
+  );
+}
+
+function readDocument(instance, { bytes }, handle) {
+  return instance.write([bytes], (document, told) => instance.exports.jp_document_new(...document, handle, ...told));
 }

@@ -1,44 +1,70 @@
 /** JSONPath queries (RFC 9535) over JSON documents, by the proved engine jp. */
 
 /**
- * JSON text, as a string or as bytes, or any other value, which `JSON.stringify` writes first; a BigInt
- * in it is a whole number. A string is JSON text: the JSON text of the string `a` is `'"a"'`.
+ * A document that is kept, JSON text, as a string or as bytes, or any other value, which `JSON.stringify` writes
+ * first; a BigInt in it is a whole number. A string is JSON text: the JSON text of the string `a` is `'"a"'`. What
+ * JSON has not, as a Map, a function or NaN, is refused.
  */
-export type Document = string | Uint8Array | object | number | bigint | boolean | null;
+export type DocumentLike = Document | string | Uint8Array | ArrayBuffer | object | number | bigint | boolean | null;
 
 /** A JSON value. A whole number that is no safe integer is a BigInt. */
 export type Value = string | number | bigint | boolean | null | Value[] | { [name: string]: Value };
 
-export interface Options {
-  /** Lets a query call `distinct`, which RFC 9535 does not have. */
-  extended?: boolean;
+export interface Limit {
   /**
    * The most steps that a query may make over the document, from 1 to 2^64 - 1; one that needs more throws
    * `StepsUsedUp`. Without it there is no limit. What is only parsed, checked or made canonical makes no steps.
    */
-  limit?: number | bigint;
+  limit?: number | bigint | null;
+}
+
+/** What may be said beside a query. Of a `Query` only `limit`. Another name is refused. */
+export interface Options extends Limit {
+  /** Lets a query call `distinct`, which RFC 9535 does not have. */
+  extended?: boolean;
 }
 
 /** A node that a query selects. */
 export class Match {
+  constructor(path: string, text: string);
   /** Its normalized path (RFC 9535, section 2.7). */
   readonly path: string;
+  /** The names and indexes of its path, from the document's root on, made anew each time. */
+  get steps(): (string | number)[];
   /** Its value as compact JSON. */
   readonly text: string;
   /** Its value, made anew each time. */
   get value(): Value;
 }
 
-/** A query that is accepted. It can be kept, and asked of any number of documents. */
+/**
+ * A query that is accepted. It is read once, and asked of any number of documents. Its calls are those below; their
+ * `limit` goes before its own.
+ */
 export class Query {
   constructor(text: string, options?: Options);
   readonly text: string;
   readonly extended: boolean;
   readonly limit: number | bigint | undefined;
-  find(document: Document): Match[];
-  paths(document: Document): string[];
-  values(document: Document): Value[];
+  find(document: DocumentLike, options?: Limit): Match[];
+  findOne(document: DocumentLike, options?: Limit): Match | null;
+  values(document: DocumentLike, options?: Limit): Value[];
+  paths(document: DocumentLike, options?: Limit): string[];
+  exists(document: DocumentLike, options?: Limit): boolean;
   toString(): string;
+}
+
+/**
+ * A document that is read once, and asked by any number of queries. What it was made of may change afterwards. Its
+ * calls are those below. Throws `DocumentError` where it is refused.
+ */
+export class Document {
+  constructor(document: Exclude<DocumentLike, Document>);
+  find(query: string | Query, options?: Options): Match[];
+  findOne(query: string | Query, options?: Options): Match | null;
+  values(query: string | Query, options?: Options): Value[];
+  paths(query: string | Query, options?: Options): string[];
+  exists(query: string | Query, options?: Options): boolean;
 }
 
 /** A query that is refused. Its message shows the query with a caret, and the sentence. */
@@ -73,18 +99,21 @@ export class DocumentError extends Error {
     | "NotWhole"
     | "ListTooLong"
     | "DocumentTooLarge";
-  /** Of `NotWhole`, the normalized path of the first number that is not a whole one of 64 bits. */
+  /**
+   * Of `NotWhole`, the normalized path of the first number that is not a whole one of 64 bits, and of a value with
+   * NaN or an infinity, which has nothing of what follows but the sentence, that of the first of these.
+   */
   readonly path: string | null;
   /** The byte of the document, in UTF-8, where it goes wrong, from 0. */
-  readonly offset: number;
+  readonly offset: number | null;
   /** The number of its line, from 1. */
-  readonly line: number;
+  readonly line: number | null;
   /** Its column in that line, in characters from 1. */
-  readonly column: number;
+  readonly column: number | null;
   /** The name of the reason, as `TrailingComma`. */
-  readonly reason: string;
+  readonly reason: string | null;
   /** The reason in words. */
-  readonly sentence: string;
+  readonly sentence: string | null;
 }
 
 /** A query that needs more steps over the document than the option `limit` allows. */
@@ -94,30 +123,40 @@ export class StepsUsedUp extends Error {
   readonly query: string;
 }
 
-/** The query, to be asked of documents. Throws `QueryError` where it is not accepted. */
+/** The query, read once, to be asked of documents. Throws `QueryError` where it is not accepted. */
+export function compile(query: string, options?: Options): Query;
+
+/** The same. */
 export function parse(query: string, options?: Options): Query;
 
 /**
  * The nodes that the query selects, in the order of RFC 9535; one that is selected twice stands there
  * twice. Throws `QueryError` or `DocumentError`, the query's first, `StepsUsedUp` where there is a limit and
- * the query needs more steps, and `RangeError` where memory ran out.
+ * the query needs more steps, `RangeError` where memory ran out, and `TypeError` where something else is given
+ * than belongs there.
  */
-export function find(query: string, document: Document, options?: Options): Match[];
+export function find(query: string | Query, document: DocumentLike, options?: Options): Match[];
+
+/** The first of these nodes, with which the evaluation stops; null where there is none. */
+export function findOne(query: string | Query, document: DocumentLike, options?: Options): Match | null;
 
 /**
- * What `find` gives for each query, over one document, each with the whole limit. A query that is refused, or
- * needs more steps than the limit, has its error in the list, and ends nothing. Throws `DocumentError` where a
- * query that is accepted is asked of what is no document.
+ * What `find` gives for each query, over one document that is read once, each with the whole limit. A query that is
+ * refused, or needs more steps than the limit, has its error in the list, and ends nothing. Throws `DocumentError`
+ * where a query that is accepted is asked of what is no document.
  */
 export function findMany(
-  queries: Iterable<string>, document: Document, options?: Options,
+  queries: Iterable<string | Query> & object, document: DocumentLike, options?: Options,
 ): (Match[] | QueryError | StepsUsedUp)[];
 
-/** The normalized paths of the nodes that `find` gives. */
-export function paths(query: string, document: Document, options?: Options): string[];
-
 /** The values of the nodes that `find` gives. */
-export function values(query: string, document: Document, options?: Options): Value[];
+export function values(query: string | Query, document: DocumentLike, options?: Options): Value[];
+
+/** The normalized paths of the nodes that `find` gives. */
+export function paths(query: string | Query, document: DocumentLike, options?: Options): string[];
+
+/** Whether `find` gives any node. The evaluation stops with the first one. */
+export function exists(query: string | Query, document: DocumentLike, options?: Options): boolean;
 
 /** The canonical text of the query: equal for equal queries, however they are spelled. Throws `QueryError`. */
 export function canonical(query: string, options?: Options): string;

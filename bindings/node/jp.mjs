@@ -7,81 +7,18 @@
  *
  * jp.d.mts has the types, and what each call gives.
  */
-import { readFileSync } from "node:fs";
-import { Engine, NO_MEMORY_TEXT, bytesOf, indexAt, textOf } from "./engine.mjs";
-import {
-  BOTH,
-  DOCUMENT_REFUSED,
-  EXTENDED,
-  NO_LIMIT,
-  NO_MEMORY,
-  PATHS,
-  QUERY_REFUSED,
-  STANDARD,
-  STEPS_USED_UP,
-  VALUES,
-} from "./numbers.mjs";
+import { answersOf, answersOfBytes, engine, keptBy, linesBy, told } from "./asking.mjs";
+import { ALL, KeptQuery } from "./engine.mjs";
+import { DocumentError, QueryError, StepsUsedUp } from "./errors.mjs";
+import { BOTH, EXTENDED, NO_LIMIT, PATHS, STANDARD, VALUES } from "./numbers.mjs";
+import { optionsRead, typeOf } from "./options.mjs";
+import { stepsOf } from "./paths.mjs";
+import { bytesOf } from "./texts.mjs";
+import { bytesGiven, documentBytes, parsed } from "./values.mjs";
 
-const engine = start();
+export { DocumentError, QueryError, StepsUsedUp };
 
-function start() {
-  const file = new URL("jp.wasm", import.meta.url);
-  let bytes;
-  try {
-    bytes = readFileSync(file);
-  } catch (cause) {
-    throw new Error(`${file.pathname} is missing: page/build of jp's repository makes it`, { cause });
-  }
-  try {
-    return new Engine(new WebAssembly.Module(bytes));
-  } catch (cause) {
-    throw new Error(
-      "this Node cannot start jp.wasm, whose memory has addresses of 64 bits; " +
-        "start it as `node --experimental-wasm-memory64 ..`",
-      { cause },
-    );
-  }
-}
-
-export class QueryError extends Error {
-  constructor(kind, place, query, { sentence = null, suggestion = null } = {}) {
-    const column = indexAt(query, place);
-    const line = query.replace(/[\n\t\r]/g, " ");
-    const before = " ".repeat([...query.slice(0, column)].length);
-    super(`query refused: ${kind} at ${place}\n${line}\n${before}^${sentence === null ? "" : `\n${sentence}`}`);
-    this.name = "QueryError";
-    this.kind = kind;
-    this.place = place;
-    this.column = column;
-    this.query = query;
-    this.sentence = sentence;
-    this.suggestion = suggestion;
-  }
-}
-
-export class DocumentError extends Error {
-  constructor(kind, path = null, { offset = null, line = null, column = null, reason = null, sentence = null } = {}) {
-    const at = path === null ? "" : ` at ${path}`;
-    super(`document refused: ${kind}${at}${sentence === null ? "" : `\nline ${line}, column ${column}: ${sentence}`}`);
-    this.name = "DocumentError";
-    this.kind = kind;
-    this.path = path;
-    this.offset = offset;
-    this.line = line;
-    this.column = column;
-    this.reason = reason;
-    this.sentence = sentence;
-  }
-}
-
-export class StepsUsedUp extends Error {
-  constructor(limit, query) {
-    super(`steps used up: the query needs more than ${limit}`);
-    this.name = "StepsUsedUp";
-    this.limit = limit;
-    this.query = query;
-  }
-}
+const FIRST = 1n;
 
 export class Match {
   constructor(path, text) {
@@ -92,26 +29,51 @@ export class Match {
   get value() {
     return parsed(this.text);
   }
+
+  get steps() {
+    return stepsOf(this.path);
+  }
 }
 
+// What the classes keep, for the functions below.
+let ownQuestionOf;
+let givenOf;
+
 export class Query {
+  #question;
+
+  static {
+    ownQuestionOf = (query) => query.#question;
+  }
+
   constructor(text, options) {
-    check(text, options);
+    const { profile, limit } = optionsRead(options);
+    const asked = new KeptQuery(queryBytes(text), profile);
+    told(engine.keep(asked), text, profile);
+    this.#question = { asked, text, limit };
     this.text = text;
-    this.extended = profileOf(options) === EXTENDED;
-    this.limit = options?.limit;
+    this.extended = profile === EXTENDED;
+    this.limit = options?.limit ?? undefined;
   }
 
-  find(document) {
-    return find(this.text, document, this);
+  find(document, options) {
+    return find(this, document, options);
   }
 
-  paths(document) {
-    return paths(this.text, document, this);
+  findOne(document, options) {
+    return findOne(this, document, options);
   }
 
-  values(document) {
-    return values(this.text, document, this);
+  values(document, options) {
+    return values(this, document, options);
+  }
+
+  paths(document, options) {
+    return paths(this, document, options);
+  }
+
+  exists(document, options) {
+    return exists(this, document, options);
   }
 
   toString() {
@@ -119,43 +81,87 @@ export class Query {
   }
 }
 
-export function parse(query, options) {
+export class Document {
+  #given;
+
+  static {
+    givenOf = (document) => document.#given;
+  }
+
+  constructor(document) {
+    // Bytes that are given may change.
+    this.#given = keptBy(bytesGiven(document)?.slice() ?? documentBytes(document));
+  }
+
+  find(query, options) {
+    return find(query, this, options);
+  }
+
+  findOne(query, options) {
+    return findOne(query, this, options);
+  }
+
+  values(query, options) {
+    return values(query, this, options);
+  }
+
+  paths(query, options) {
+    return paths(query, this, options);
+  }
+
+  exists(query, options) {
+    return exists(query, this, options);
+  }
+}
+
+export function compile(query, options) {
   return new Query(query, options);
 }
 
+export const parse = compile;
+
 export function find(query, document, options) {
-  return linesOf(query, document, BOTH, options).map((line) => {
-    const tab = line.indexOf("\t");
-    return new Match(line.slice(0, tab), line.slice(tab + 1));
-  });
+  return linesOf(query, document, options, BOTH).map(matchOf);
+}
+
+export function findOne(query, document, options) {
+  const [line] = linesOf(query, document, options, BOTH, FIRST);
+  return line === undefined ? null : matchOf(line);
 }
 
 export function findMany(queries, document, options) {
-  return Array.from(queries, (query) => {
-    try {
-      return find(query, document, options);
-    } catch (fault) {
-      if (fault instanceof QueryError || fault instanceof StepsUsedUp) return fault;
-      throw fault;
-    }
-  });
-}
-
-export function paths(query, document, options) {
-  return linesOf(query, document, PATHS, options);
+  if (typeof queries === "string" || typeof queries?.[Symbol.iterator] !== "function") {
+    throw new TypeError(`queries are a list of them, and not of type ${typeOf(queries)}`);
+  }
+  optionsRead(options);
+  // What is given may call on its own, so all of it is read first.
+  const questions = Array.from(queries, (query) => questionOf(query, options));
+  const answers =
+    document instanceof Document
+      ? answersOf(questions, BOTH, () => givenOf(document))
+      : answersOfBytes(questions, BOTH, documentBytes(document));
+  return answers.map((answer) => (Array.isArray(answer) ? answer.map(matchOf) : answer));
 }
 
 export function values(query, document, options) {
-  return parsed(`[${linesOf(query, document, VALUES, options).join(",")}]`);
+  return parsed(`[${linesOf(query, document, options, VALUES).join(",")}]`);
+}
+
+export function paths(query, document, options) {
+  return linesOf(query, document, options, PATHS);
+}
+
+export function exists(query, document, options) {
+  return linesOf(query, document, options, PATHS, FIRST).length > 0;
 }
 
 export function canonical(query, options) {
-  const profile = profileOf(options);
+  const { profile } = optionsRead(options);
   return told(engine.canonical(queryBytes(query), profile), query, profile);
 }
 
 export function check(query, options) {
-  const profile = profileOf(options);
+  const { profile } = optionsRead(options);
   told(engine.check(queryBytes(query), profile), query, profile);
 }
 
@@ -163,110 +169,47 @@ export function version() {
   return engine.version();
 }
 
-function profileOf(options) {
-  return options?.extended ? EXTENDED : STANDARD;
+function matchOf(line) {
+  const tab = line.indexOf("\t");
+  return new Match(line.slice(0, tab), line.slice(tab + 1));
 }
 
-/** The limit of steps as a BigInt, of which 0 is none. */
-function limitOf(options) {
-  const limit = options?.limit ?? null;
-  if (limit === null) {
-    return NO_LIMIT;
+// The text that was asked last, which is read once where it is asked again.
+let lastAsked = { asked: { bytes: bytesOf("$"), profile: STANDARD }, text: "$" };
+
+/** What is asked: the query for the engine, its text, and the limit of steps. */
+function questionOf(query, options) {
+  if (query instanceof Query) {
+    const { limit } = optionsRead(options, ["limit"]);
+    const own = ownQuestionOf(query);
+    return limit === NO_LIMIT ? own : { ...own, limit };
   }
-  if (typeof limit !== "bigint" && !Number.isSafeInteger(limit)) {
-    throw new TypeError("a limit is a whole number of steps, or a BigInt");
+  const { profile, limit } = optionsRead(options);
+  if (query !== lastAsked.text || profile !== lastAsked.asked.profile) {
+    lastAsked = { asked: { bytes: queryBytes(query), profile }, text: query };
   }
-  if (limit < 1 || limit >= 2n ** 64n) {
-    throw new RangeError("a limit is a number of steps, from 1 to 2^64 - 1");
-  }
-  return BigInt(limit);
+  return { ...lastAsked, limit };
 }
 
-function linesOf(query, document, form, options) {
-  const profile = profileOf(options);
-  const bytes = documentBytes(document);
-  const outcome = engine.evaluate(queryBytes(query), bytes, form, profile, limitOf(options));
-  // Each line ends with a newline, which no path and no value has inside.
-  return told(outcome, query, profile, bytes).split("\n").slice(0, -1);
+function linesOf(query, document, options, form, count = ALL) {
+  if (isInWrongOrder(query, document)) {
+    throw new TypeError("the query comes first, and the document after it");
+  }
+  const question = questionOf(query, options);
+  const { asks, kept } =
+    document instanceof Document ? givenOf(document) : { asks: engine, kept: documentBytes(document) };
+  return linesBy(asks, question, kept, form, count);
 }
 
-/** The text of an outcome, or the error that it stands for: of a query, and of a document if one was read. */
-function told({ status, kind, place, steps, text: written }, query, profile, document) {
-  // Further calls write where this one did.
-  const text = textOf(written);
-  switch (status) {
-    case QUERY_REFUSED:
-      throw new QueryError(engine.kindName(status, kind), place, query, engine.explain(queryBytes(query), profile));
-    case DOCUMENT_REFUSED:
-      throw new DocumentError(engine.kindName(status, kind), text || null, engine.explainDocument(document));
-    case NO_MEMORY:
-      throw new RangeError(NO_MEMORY_TEXT);
-    case STEPS_USED_UP:
-      throw new StepsUsedUp(steps, query);
-    default:
-      return text;
-  }
+/** Whether the document is a query, and the query is none. */
+function isInWrongOrder(query, document) {
+  const isQuery = (it) => it instanceof Query || (typeof it === "string" && it.startsWith("$"));
+  return isQuery(document) && !isQuery(query);
 }
 
 function queryBytes(query) {
   if (typeof query !== "string") {
-    throw new TypeError("a query is a string");
+    throw new TypeError(`a query is a string or a Query, and not of type ${typeOf(query)}`);
   }
   return bytesOf(query);
-}
-
-function documentBytes(document) {
-  if (document instanceof Uint8Array) {
-    return document;
-  }
-  const text = typeof document === "string" ? document : written(document);
-  if (text === undefined) {
-    throw new TypeError("a document is JSON text, bytes, or a value that JSON has");
-  }
-  return bytesOf(text);
-}
-
-const LONG_NUMBER = /\d{16}/;
-// A text, with a colon after it where it is a member's name, or a number beyond what a Number holds.
-const TEXT_OR_LONG_NUMBER = /"[^"\\]*(?:\\.[^"\\]*)*":?|-?\d{16,}/g;
-
-/**
- * The value of a compact JSON text, whose numbers are whole: one that is no safe integer is a BigInt.
- * Where there may be such numbers, each value that is a text is marked by a letter before it is read, so
- * that a number can be read as a text with another letter.
- */
-function parsed(text) {
-  if (!LONG_NUMBER.test(text)) {
-    return JSON.parse(text);
-  }
-  const marked = text.replace(TEXT_OR_LONG_NUMBER, (token) => {
-    if (token.endsWith(":")) {
-      return token;
-    }
-    return token.startsWith('"') ? `"t${token.slice(1)}` : `"n${token}"`;
-  });
-  return JSON.parse(marked, (_, value) => {
-    if (typeof value !== "string") {
-      return value;
-    }
-    return value.startsWith("t") ? value.slice(1) : numberOf(value.slice(1));
-  });
-}
-
-function numberOf(digits) {
-  return Number.isSafeInteger(Number(digits)) ? Number(digits) : BigInt(digits);
-}
-
-/** A value as JSON text; a BigInt is a number in it. */
-function written(value) {
-  const mark = crypto.randomUUID();
-  let hasBigInt = false;
-  const text = JSON.stringify(value, (_, part) => {
-    if (typeof part !== "bigint") {
-      return part;
-    }
-    hasBigInt = true;
-    return mark + part;
-  });
-  return hasBigInt ? text.replace(new RegExp(`"${mark}(-?\\d+)"`, "g"), "$1") : text;
 }

@@ -1,5 +1,5 @@
 /** The page: what is asked, and what is shown of the answers. */
-import { indexAt } from "../../bindings/node/engine.mjs";
+import { indexAt } from "../../bindings/node/texts.mjs";
 import { EXAMPLES } from "./examples.mjs";
 import { placeOf } from "./places.mjs";
 

@@ -1,5 +1,5 @@
 /** Asks the engine, away from the page, which so never waits for an answer. */
-import { Engine, bytesOf, textOf } from "../../bindings/node/engine.mjs";
+import { Engine } from "../../bindings/node/engine.mjs";
 import {
   BOTH,
   DOCUMENT_REFUSED,
@@ -10,6 +10,7 @@ import {
   STANDARD,
   VALUES,
 } from "../../bindings/node/numbers.mjs";
+import { bytesOf, textOf } from "../../bindings/node/texts.mjs";
 
 const FORMS = { values: VALUES, paths: PATHS, both: BOTH };
 const PROFILES = { standard: STANDARD, extended: EXTENDED };
@@ -81,7 +82,7 @@ function answer({ query, form, profile: name }) {
   if (refused) {
     return refused;
   }
-  const evaluate = () => engine.evaluate(text, documentBytes, FORMS[form], profile);
+  const evaluate = () => engine.ask({ bytes: text, profile }, documentBytes, FORMS[form]);
   const first = timed(evaluate);
   const { answered, time } = first.time < SHORT ? timed(evaluate) : first;
   return { canonical: accepted, time, ...(refusal(answered, text, profile) ?? rowsOf(answered.text, form)) };

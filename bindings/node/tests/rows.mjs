@@ -8,6 +8,7 @@ import { spawnSync } from "node:child_process";
 import { readFileSync } from "node:fs";
 import { fileURLToPath } from "node:url";
 import * as jp from "../jp.mjs";
+import { pathOf } from "../paths.mjs";
 
 const PROGRAM = fileURLToPath(new URL("../../../crates/jp/out/jp", import.meta.url));
 
@@ -34,7 +35,19 @@ function written(command, document, query, extended) {
   if (command === "canon") {
     return `${jp.canonical(query, { extended })}\n`;
   }
-  return jp.find(query, document, { extended }).map(({ path, text }) => `${path}\t${text}\n`).join("");
+  const found = jp.find(query, document, { extended });
+  assertKept(found, jp.compile(query, { extended }), document);
+  return found.map(({ path, text }) => `${path}\t${text}\n`).join("");
+}
+
+/** That what is kept is answered in the same way, and that a path is that of its steps. */
+function assertKept(found, query, document) {
+  const kept = new jp.Document(document);
+  assert.deepEqual(query.find(document), found);
+  assert.deepEqual(kept.find(query), found);
+  assert.deepEqual([query.findOne(document), kept.findOne(query)], [found[0] ?? null, found[0] ?? null]);
+  assert.equal(kept.exists(query), found.length > 0);
+  found.forEach((match) => assert.equal(pathOf(match.steps), match.path));
 }
 
 const lines = readFileSync(0, "utf8").split("\n").slice(0, -1);

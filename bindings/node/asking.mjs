@@ -1,0 +1,93 @@
+/** What the engines are asked, in lines of text, or the errors that outcomes stand for. */
+import { readFileSync } from "node:fs";
+import { ALL, Engine, KeptDocument } from "./engine.mjs";
+import { DocumentError, QueryError, StepsUsedUp } from "./errors.mjs";
+import { NO_MEMORY_TEXT } from "./instance.mjs";
+import { DOCUMENT_REFUSED, DONE, NO_MEMORY, QUERY_REFUSED, STEPS_USED_UP } from "./numbers.mjs";
+import { bytesOf, textOf } from "./texts.mjs";
+
+const compiled = start();
+
+// A document of more bytes has an engine of its own, and so memory that goes with it.
+const SMALL = 1 << 16;
+
+/** The engine that is asked of documents that are not kept, and keeps small ones. */
+export const engine = new Engine(compiled);
+
+function start() {
+  const file = new URL("jp.wasm", import.meta.url);
+  let bytes;
+  try {
+    bytes = readFileSync(file);
+  } catch (cause) {
+    throw new Error(`${file.pathname} is missing: page/build of jp's repository makes it`, { cause });
+  }
+  try {
+    return new WebAssembly.Module(bytes);
+  } catch (cause) {
+    throw new Error(
+      "this Node cannot start jp.wasm, whose memory has addresses of 64 bits; " +
+        "start it as `node --experimental-wasm-memory64 ..`",
+      { cause },
+    );
+  }
+}
+
+/** What the engine `asks` keeps as `kept`, the document that these bytes are. */
+export function keptBy(bytes) {
+  const given = { asks: bytes.length > SMALL ? new Engine(compiled) : engine, kept: new KeptDocument(bytes) };
+  told(given.asks.keep(given.kept), null, null, bytes);
+  return given;
+}
+
+/** The lines of what an engine is asked of bytes, or of a document that it keeps. */
+export function linesBy(asks, { asked, text, limit }, document, form, count) {
+  // Each line ends with a newline, which no path and no value has inside.
+  return told(asks.ask(asked, document, form, count, limit), text, asked.profile, document).split("\n").slice(0, -1);
+}
+
+/** The lines of each question, or its error, where `given` tells who keeps the document. */
+export function answersOf(questions, form, given) {
+  return questions.map((question) => {
+    try {
+      const { asked, text } = question;
+      // A document that only refused queries are asked of is not read.
+      told(engine.check(asked.bytes, asked.profile), text, asked.profile);
+      const { asks, kept } = given();
+      return linesBy(asks, question, kept, form, ALL);
+    } catch (fault) {
+      if (fault instanceof QueryError || fault instanceof StepsUsedUp) return fault;
+      throw fault;
+    }
+  });
+}
+
+/** The same of a document that is read once, and not kept. */
+export function answersOfBytes(questions, form, bytes) {
+  let given = null;
+  try {
+    return answersOf(questions, form, () => (given ??= keptBy(bytes)));
+  } finally {
+    given?.asks.forget(given.kept);
+  }
+}
+
+/** The text of an outcome, or the error that it stands for: of a query, and of a document if one was read. */
+export function told({ status, kind, place, steps, text: written }, query, profile, document) {
+  // Further calls write where this one did.
+  const text = textOf(written);
+  switch (status) {
+    case DONE:
+      return text;
+    case QUERY_REFUSED:
+      throw new QueryError(engine.kindName(status, kind), place, query, engine.explain(bytesOf(query), profile));
+    case DOCUMENT_REFUSED:
+      throw new DocumentError(engine.kindName(status, kind), text || null, engine.explainDocument(document));
+    case NO_MEMORY:
+      throw new RangeError(NO_MEMORY_TEXT);
+    case STEPS_USED_UP:
+      throw new StepsUsedUp(steps, query);
+    default:
+      throw new Error(`the engine gives the status ${status}`);
+  }
+}

@@ -1,0 +1,264 @@
+/** Queries and documents that are kept, and the memory that they take. Expected values are by hand. */
+import assert from "node:assert/strict";
+import { readFileSync } from "node:fs";
+import test from "node:test";
+import v8 from "node:v8";
+import vm from "node:vm";
+import { Engine, KeptDocument, KeptQuery } from "../engine.mjs";
+import * as jp from "../jp.mjs";
+import { DOCUMENT_REFUSED, DONE, PATHS, QUERY_REFUSED, STANDARD, VALUES } from "../numbers.mjs";
+import { bytesOf, textOf } from "../texts.mjs";
+
+const TEXT = '{"a":[1,{"b":2}],"c":{"b":3}}';
+
+v8.setFlagsFromString("--expose-gc");
+const collect = vm.runInNewContext("gc");
+
+/** The calls of each way to ask a query of a document, both as texts. */
+function ways(query, document, options) {
+  const compiled = jp.compile(query, options);
+  const kept = new jp.Document(document);
+  return {
+    texts: (name) => jp[name](query, document, options),
+    compiled: (name) => jp[name](compiled, document),
+    "of a query": (name) => compiled[name](document),
+    kept: (name) => jp[name](query, kept, options),
+    "of a document": (name) => kept[name](query, options),
+    both: (name) => compiled[name](kept),
+    "of a document, compiled": (name) => kept[name](compiled),
+  };
+}
+
+for (const way of Object.keys(ways("$", "0"))) {
+  test(`what is asked by ${way}`, () => {
+    const call = ways("$..b", TEXT)[way];
+    // Each is asked twice, since what is kept goes on.
+    for (let time = 0; time < 2; time += 1) {
+      assert.deepEqual(call("values"), [2, 3]);
+      assert.deepEqual(call("paths"), ["$['a'][1]['b']", "$['c']['b']"]);
+      assert.deepEqual(call("find"), [new jp.Match("$['a'][1]['b']", "2"), new jp.Match("$['c']['b']", "3")]);
+      assert.deepEqual(call("findOne"), new jp.Match("$['a'][1]['b']", "2"));
+      assert.equal(call("exists"), true);
+    }
+  });
+
+  test(`what selects nothing by ${way}`, () => {
+    for (const query of ["$.x", "$..x"]) {
+      const call = ways(query, TEXT)[way];
+      assert.deepEqual([call("values"), call("paths"), call("find")], [[], [], []]);
+      assert.deepEqual([call("findOne"), call("exists")], [null, false]);
+    }
+  });
+
+  test(`limits and profiles by ${way}`, () => {
+    // Seven steps, as tests/calls.mjs counts them.
+    assert.deepEqual(ways("$[*]", "[1,2]", { limit: 7 })[way]("values"), [1, 2]);
+    assert.throws(() => ways("$[*]", "[1,2]", { limit: 6 })[way]("values"), new jp.StepsUsedUp(6n, "$[*]"));
+    assert.deepEqual(ways("$[?distinct(@.*)]", "[{},[0]]", { extended: true })[way]("paths"), ["$[1]"]);
+  });
+}
+
+test("the first node ends the evaluation", () => {
+  const query = jp.compile("$[*]", { limit: 6 });
+  assert.equal(query.findOne("[1,2]").value, 1);
+  assert.equal(query.exists("[1,2]"), true);
+});
+
+test("a limit of a call goes before the query's", () => {
+  const query = jp.compile("$[*]", { limit: 6 });
+  const document = new jp.Document([1, 2]);
+  assert.deepEqual(query.values([1, 2], { limit: 7 }), [1, 2]);
+  assert.deepEqual(document.values(query, { limit: 7n }), [1, 2]);
+  assert.throws(() => jp.compile("$[*]", { limit: 7 }).values(document, { limit: 6 }), jp.StepsUsedUp);
+});
+
+test("names and indexes of a match", () => {
+  const names = ["a", "", "'", "\\", "\b\t\n\f\r", "\u0000\u001f", "é😀", "['x'][0]", '"', "\u007f"];
+  const document = names.reduceRight((inside, name) => [0, { [name]: inside }], 7);
+  const match = jp.findOne("$..[?@==7]", document);
+  assert.deepEqual(match.steps, names.flatMap((name) => [1, name]));
+  assert.deepEqual(jp.findOne("$", document).steps, []);
+  assert.deepEqual(jp.findOne("$[10]", [...Array(11).keys()]).steps, [10]);
+  assert.deepEqual(jp.findOne("$.*", { 0: 1 }).steps, ["0"]);
+});
+
+test("what a document is made of may change", () => {
+  const bytes = bytesOf("[1]");
+  const value = [1];
+  const documents = [bytes, bytes.buffer, value].map((it) => new jp.Document(it));
+  bytes[1] = 0x32;
+  value[0] = 2;
+  for (const document of documents) {
+    assert.deepEqual(document.values("$[0]"), [1]);
+  }
+  assert.deepEqual(jp.values("$[0]", bytes), [2]);
+});
+
+test("documents and queries that are refused are not kept", () => {
+  for (const [document, path, reason] of [
+    ["[1,]", null, "TrailingComma"],
+    ["[1,2.5]", "$[1]", "HasFraction"],
+  ]) {
+    const is = { name: "DocumentError", path, reason };
+    assert.throws(() => new jp.Document(document), is);
+    assert.throws(() => jp.compile("$").values(document), is);
+  }
+  const kept = new jp.Document("[1]");
+  for (const call of [() => kept.find("$["), () => jp.compile("$["), () => jp.find("$[", kept)]) {
+    assert.throws(call, { name: "QueryError", place: 2 });
+  }
+  assert.deepEqual(kept.values("$[0]"), [1]);
+});
+
+test("one text after another", () => {
+  const document = new jp.Document([[1], { a: 2 }]);
+  for (const asked of [document, [[1], { a: 2 }]]) {
+    for (const [query, options, values] of [
+      ["$[0][0]", undefined, [1]],
+      ["$[1].a", undefined, [2]],
+      ["$[1].a", { extended: true }, [2]],
+      ["$[1].a", { limit: 100 }, [2]],
+      ["$[?distinct(@.*)]", { extended: true }, [[1], { a: 2 }]],
+      ["$[0][0]", undefined, [1]],
+      ["$[0][0]", undefined, [1]],
+    ]) {
+      assert.deepEqual(jp.values(query, asked, options), values);
+      assert.throws(() => jp.values("$[?distinct(@.*)]", asked), jp.QueryError);
+      assert.throws(() => jp.values("$[?distinct(@.*)]", asked), jp.QueryError);
+      assert.deepEqual(jp.values(query, asked, options), values);
+    }
+  }
+});
+
+test("a refused query is told before the document", () => {
+  for (const call of [jp.find, jp.findOne, jp.values, jp.paths, jp.exists]) {
+    assert.throws(() => call("$[", "[1,]"), jp.QueryError);
+  }
+});
+
+test("many queries of a document that is kept, and of one that is not", () => {
+  const answers = [[new jp.Match("$['a']", "1")], jp.QueryError, [], [new jp.Match("$['b']", "2")], jp.StepsUsedUp];
+  const queries = () => ["$.a", "$[01]", "$..c", jp.compile("$.b"), jp.compile("$..*", { limit: 2 })];
+  const text = '{"a":1,"b":2}';
+  for (const document of [text, new jp.Document(text), { a: 1, b: 2 }]) {
+    const found = jp.findMany(queries(), document);
+    assert.deepEqual(found.map((it) => (Array.isArray(it) ? it : it.constructor)), answers);
+    // What is not kept is forgotten.
+    assert.deepEqual(jp.values("$", "[0]"), [[0]]);
+  }
+  function* asking() {
+    yield `$.${jp.findMany(["$[0]"], ["a"])[0][0].value}`;
+  }
+  assert.deepEqual(jp.findMany(asking(), text), [answers[0]]);
+  assert.throws(() => jp.findMany(["$"], "[1,]"), jp.DocumentError);
+  assert.deepEqual(jp.findMany([], "[1,]"), []);
+  assert.deepEqual(jp.values("$", "[0]"), [[0]]);
+});
+
+test("what is kept goes on after the stack ran out", () => {
+  const query = jp.compile("$..[?@..a]");
+  const document = new jp.Document('[{"a":1}]');
+  const deep = (depth) => (depth === 0 ? query.paths(document).concat(query.paths("[[{\"a\":1}]]")) : deep(depth - 1));
+  let faults = 0;
+  for (let depth = 1; depth < 20_000; depth += 97) {
+    try {
+      assert.deepEqual(deep(depth), ["$[0]", "$[0]", "$[0][0]"]);
+    } catch (fault) {
+      assert.ok(fault instanceof RangeError, fault);
+      faults += 1;
+    }
+  }
+  assert.ok(faults > 0);
+  assert.deepEqual(deep(0), ["$[0]", "$[0]", "$[0][0]"]);
+});
+
+// The module's memory, by the engine itself.
+
+const module = new WebAssembly.Module(readFileSync(new URL("../jp.wasm", import.meta.url)));
+// A document that takes more memory than is kept, and so does the text of its paths.
+const LARGE = bytesOf(`[${"0,".repeat(2_000_000)}1]`);
+const MOST = 1 << 26;
+
+/** Waits until what nothing refers to is collected. */
+async function collected() {
+  for (let time = 0; time < 3; time += 1) {
+    await new Promise((resume) => setTimeout(resume));
+    collect();
+  }
+}
+
+test("memory of a large document is given back, and queries go on", async () => {
+  const engine = new Engine(module);
+  const query = new KeptQuery(bytesOf("$[?@==1]"), STANDARD);
+  assert.equal(engine.keep(query).status, DONE);
+  const first = engine.size;
+  const memory = (() => {
+    const { text } = engine.ask(query, LARGE, PATHS);
+    assert.equal(textOf(text), "$[2000000]\n");
+    return new WeakRef(text.buffer);
+  })();
+  assert.equal(engine.size, 0);
+  await collected();
+  assert.ok(memory.deref() === undefined, "the memory is held");
+  assert.equal(textOf(engine.ask(query, bytesOf("[1]"), PATHS).text), "$[0]\n");
+  assert.equal(engine.size, first);
+  const isNone = LARGE.slice();
+  isNone[isNone.length - 2] = "x".charCodeAt();
+  assert.equal(engine.ask(query, isNone, PATHS).status, DOCUMENT_REFUSED);
+  assert.ok(engine.size <= first + MOST);
+});
+
+test("a document that is kept is kept where the memory of an answer is given back", () => {
+  const engine = new Engine(module);
+  const query = new KeptQuery(bytesOf("$[*]"), STANDARD);
+  const document = new KeptDocument(LARGE);
+  const small = new KeptDocument(bytesOf("[5]"));
+  assert.deepEqual([document, small].map((it) => engine.keep(it).status), [DONE, DONE]);
+  const kept = engine.size;
+  assert.ok(kept > MOST);
+  // Of `$[]` and a newline, and the digits of the numbers up to two million.
+  const digits = 10 + 90 * 2 + 900 * 3 + 9000 * 4 + 90_000 * 5 + 900_000 * 6 + 1_000_001 * 7;
+  assert.equal(engine.ask(query, document, PATHS).text.length, 2_000_001 * 4 + digits);
+  assert.equal(engine.size, 0);
+  assert.equal(textOf(engine.ask(query, document, VALUES, 2n).text), "0\n0\n");
+  assert.equal(textOf(engine.ask(query, small, VALUES).text), "5\n");
+  assert.ok(engine.size >= kept);
+  engine.forget(document);
+  assert.ok(engine.size >= kept);
+  engine.forget(small);
+  assert.equal(engine.size, 0);
+  assert.equal(textOf(engine.ask(query, small, VALUES).text), "5\n");
+});
+
+test("a query that is refused is refused again", () => {
+  const engine = new Engine(module);
+  const query = new KeptQuery(bytesOf("$["), STANDARD);
+  for (let time = 0; time < 2; time += 1) {
+    assert.equal(engine.keep(query).status, QUERY_REFUSED);
+    assert.equal(engine.ask(query, bytesOf("[]"), VALUES).status, QUERY_REFUSED);
+  }
+});
+
+test("memory of what is forgotten is used again", async () => {
+  const engine = new Engine(module);
+  engine.version();
+  const first = engine.size;
+  for (let round = 0; round < 20; round += 1) {
+    for (let time = 0; time < 500; time += 1) {
+      const query = new KeptQuery(bytesOf(`$..a[?@.b==${time}]`), STANDARD);
+      assert.equal(textOf(engine.ask(query, new KeptDocument(bytesOf('{"a":[{"b":7}]}')), PATHS).text).length,
+        time === 7 ? "$['a'][0]\n".length : 0);
+    }
+    await collected();
+  }
+  assert.ok(engine.size < first + (1 << 24), `${engine.size} bytes`);
+});
+
+test("documents that are kept at once", () => {
+  const documents = Array.from({ length: 5000 }, (_, index) => new jp.Document([index]));
+  const query = jp.compile("$[0]");
+  documents.forEach((document, index) => assert.deepEqual(query.values(document), [index]));
+  // What took much memory meanwhile makes them be read anew.
+  assert.equal(jp.exists("$[?@==1]", LARGE), true);
+  documents.forEach((document, index) => assert.deepEqual(query.values(document), [index]));
+});

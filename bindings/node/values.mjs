@@ -1,0 +1,125 @@
+/** JSON texts and the values of JavaScript that they stand for. */
+import { DocumentError } from "./errors.mjs";
+import { typeOf } from "./options.mjs";
+import { pathOf } from "./paths.mjs";
+import { bytesOf } from "./texts.mjs";
+
+const LONG_NUMBER = /\d{16}/;
+// A text, with a colon after it where it is a member's name, or a number beyond what a Number holds.
+const TEXT_OR_LONG_NUMBER = /"[^"\\]*(?:\\.[^"\\]*)*":?|-?\d{16,}/g;
+
+/**
+ * The value of a compact JSON text, whose numbers are whole: one that is no safe integer is a BigInt.
+ * Where there may be such numbers, each value that is a text is marked by a letter before it is read, so
+ * that a number can be read as a text with another letter.
+ */
+export function parsed(text) {
+  if (!LONG_NUMBER.test(text)) {
+    return JSON.parse(text);
+  }
+  const marked = text.replace(TEXT_OR_LONG_NUMBER, (token) => {
+    if (token.endsWith(":")) {
+      return token;
+    }
+    return token.startsWith('"') ? `"t${token.slice(1)}` : `"n${token}"`;
+  });
+  return JSON.parse(marked, (_, value) => {
+    if (typeof value !== "string") {
+      return value;
+    }
+    return value.startsWith("t") ? value.slice(1) : numberOf(value.slice(1));
+  });
+}
+
+function numberOf(digits) {
+  return Number.isSafeInteger(Number(digits)) ? Number(digits) : BigInt(digits);
+}
+
+/** The bytes that are given as a document, which are the caller's own; null of anything else. */
+export function bytesGiven(document) {
+  switch (Object.prototype.toString.call(document)) {
+    case "[object Uint8Array]":
+      return document;
+    case "[object ArrayBuffer]":
+    case "[object SharedArrayBuffer]":
+      return new Uint8Array(document);
+    default:
+      return null;
+  }
+}
+
+/** The bytes of a document. */
+export function documentBytes(document) {
+  return bytesGiven(document) ?? bytesOf(typeof document === "string" ? document : written(document));
+}
+
+/** A value as JSON text; a BigInt is a number in it. What JSON has not is refused, and not left out. */
+function written(document) {
+  const mark = crypto.randomUUID();
+  let hasBigInt = false;
+  const text = JSON.stringify(document, function (name, part) {
+    // A program may have given BigInts a toJSON.
+    if (typeof this[name] === "bigint") {
+      hasBigInt = true;
+      return mark + this[name];
+    }
+    if (!isOfJson(part)) {
+      throw refusal(document, part);
+    }
+    return part;
+  });
+  if (text === undefined) {
+    throw refusalOf(undefined, []);
+  }
+  return hasBigInt ? text.replace(new RegExp(`"${mark}(-?\\d+)"`, "g"), "$1") : text;
+}
+
+/** Whether JSON has such a value. Members that are undefined are left out, as JSON.stringify does with them. */
+function isOfJson(part) {
+  switch (typeof part) {
+    case "number":
+      return Number.isFinite(part);
+    case "function":
+    case "symbol":
+      return false;
+    case "object":
+      return part === null || Array.isArray(part) || isRecord(part);
+    default:
+      return true;
+  }
+}
+
+/** Whether an object is one for its members: a plain one of any realm, or one of a class that has some. */
+function isRecord(object) {
+  const parent = Object.getPrototypeOf(object);
+  if (parent === null || Object.getPrototypeOf(parent) === null) {
+    return true;
+  }
+  return Object.prototype.toString.call(object) === "[object Object]" && Object.keys(object).length > 0;
+}
+
+/** The error of a document in which a part is none of JSON, with the path of the first such part. */
+function refusal(document, part) {
+  const steps = new Map();
+  try {
+    JSON.stringify(document, function (name, it) {
+      const above = steps.get(this);
+      const own = above === undefined ? [] : [...above, Array.isArray(this) ? Number(name) : name];
+      if (!isOfJson(it)) {
+        throw refusalOf(it, own);
+      }
+      steps.set(it, own);
+      return typeof it === "bigint" ? null : it;
+    });
+  } catch (fault) {
+    return fault;
+  }
+  return refusalOf(part, []);
+}
+
+function refusalOf(part, steps) {
+  const path = pathOf(steps);
+  return typeof part === "number"
+    ? new DocumentError("NotJson", path, { sentence: `${part} is no JSON number.` })
+    : new TypeError(`JSON has no value of type ${typeOf(part)}, as stands at ${path}`);
+}
