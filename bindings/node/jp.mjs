@@ -41,6 +41,7 @@ let givenOf;
 
 export class Query {
   #question;
+  #limit;
 
   static {
     ownQuestionOf = (query) => query.#question;
@@ -51,9 +52,19 @@ export class Query {
     const asked = new KeptQuery(queryBytes(text), profile);
     told(engine.keep(asked), text, profile);
     this.#question = { asked, text, limit };
-    this.text = text;
-    this.extended = profile === EXTENDED;
-    this.limit = options?.limit ?? undefined;
+    this.#limit = options?.limit ?? undefined;
+  }
+
+  get text() {
+    return this.#question.text;
+  }
+
+  get extended() {
+    return this.#question.asked.profile === EXTENDED;
+  }
+
+  get limit() {
+    return this.#limit;
   }
 
   find(document, options) {

@@ -142,6 +142,7 @@ test("what JSON has not", () => {
     [new Int8Array(2), "Int8Array"],
     [new DataView(bytes.buffer), "DataView"],
     [new Empty(), "Empty"],
+    [jp.compile("$", { limit: 7 }), "Query"],
     [new URLSearchParams("a=1"), "URLSearchParams"],
     [jp.compile, "function"],
     [Symbol("a"), "symbol"],

@@ -64,6 +64,13 @@ test("the first node ends the evaluation", () => {
   assert.equal(query.exists("[1,2]"), true);
 });
 
+test("what a query tells of itself", () => {
+  const query = jp.compile("$ .a", { extended: true, limit: 7 });
+  assert.deepEqual([query.text, `${query}`, query.extended, query.limit], ["$ .a", "$ .a", true, 7]);
+  const bare = new jp.Query("$");
+  assert.deepEqual([bare.text, bare.extended, bare.limit], ["$", false, undefined]);
+});
+
 test("a limit of a call goes before the query's", () => {
   const query = jp.compile("$[*]", { limit: 6 });
   const document = new jp.Document([1, 2]);
