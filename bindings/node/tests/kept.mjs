@@ -197,7 +197,9 @@ async function collected() {
 test("memory of a large document is given back, and queries go on", async () => {
   const engine = new Engine(module);
   const query = new KeptQuery(bytesOf("$[?@==1]"), STANDARD);
+  const passing = { bytes: bytesOf("$[0]"), profile: STANDARD };
   assert.equal(engine.keep(query).status, DONE);
+  assert.equal(textOf(engine.ask(passing, bytesOf("[1]"), VALUES).text), "1\n");
   const first = engine.size;
   const memory = (() => {
     const { text } = engine.ask(query, LARGE, PATHS);
@@ -207,6 +209,7 @@ test("memory of a large document is given back, and queries go on", async () => 
   assert.equal(engine.size, 0);
   await collected();
   assert.ok(memory.deref() === undefined, "the memory is held");
+  assert.equal(textOf(engine.ask(passing, bytesOf("[2]"), VALUES).text), "2\n");
   assert.equal(textOf(engine.ask(query, bytesOf("[1]"), PATHS).text), "$[0]\n");
   assert.equal(engine.size, first);
   const isNone = LARGE.slice();
