@@ -1,4 +1,4 @@
-mod Asking
+mod LentAnswers
 mod CopiedFaults
 mod HeldValues
 mod Explaining

@@ -1,23 +1,56 @@
 -- What is told of an answer is an outcome of what was asked.
-use Rattle.std.proofs.Common.{◌≡◌, ◌⊎◌, ℕ, List, IfErr, MatchResult, None, Ok, OnOk, Err, Option, Result, Some}
-use Rattle.std.proofs.Common.{String, arith, inl, inr, string_bytes, subst, sym}
+use Rattle.std.proofs.Common.{◌≡◌, ◌⊎◌, ◌==◌, ◌∙◌, ℕ, zero, suc, Bool, true, false, if◌then◌else◌, List, []}
+use Rattle.std.proofs.Common.{IfErr, MatchResult, None, Ok, OnOk, Err, Option, Result, Some, String, ap}
+use Rattle.std.proofs.Common.{arith, inl, inr, map, option_to_list, refl, string_bytes, subst, sym}
 use Rattle.std.specs.declared.alloc.Global.{Global}
+use Rattle.jp_command.specs.Lines.{lines_of}
+use Rattle.jp_command.specs.Selecting.{first_nodes}
 use Rattle.jp_command.specs.declared.lines.Form.{Form}
 use Rattle.jp_document.specs.Document.{IsDocument}
+use Rattle.jp_document.specs.Location.{Location, value_at}
+use Rattle.jp_document.specs.Node.{node_at}
 use Rattle.jp_document.specs.Value.{Value}
 use Rattle.jp_tree.specs.Tree.{QueryTree}
 use Rattle.jsonpath.specs.Size.{Fits}
 use Rattle.jsonpath.specs.declared.fault.FindFault.{FindFault}
 use Rattle.jsonpath.specs.declared.fault.FindFault.TheVariants.{Query, Document, DocumentTooLarge}
 use Rattle.jsonpath.specs.declared.fault.FindFault.TheVariants.{NoMemory, StepsUsedUp}
-use Rattle.jp_c.specs.Asking.{IsAskDocumentOutcome, IsAskOutcome, IsAskedOf, IsNoAnswerOf, answer_of}
+use Rattle.jp_c.specs.Asking.{IsAskDocumentOutcome, IsAskOutcome, IsAskedOf, IsNoAnswerOf, answer_of, most_of}
 use Rattle.jp_c.specs.Handles.{document_kept}
 use Rattle.jp_c.specs.Limit.{MakesSteps, Within}
-use Rattle.jp_c.specs.Private.Askers.{IsValueOutcome}
+use Rattle.jp_c.specs.Private.Askers.{AnswersNamed, IsValueOutcome}
 use Rattle.jp_c.specs.Private.Placing.{IsPlaced, IsTold}
 use Rattle.jp_c.specs.declared.kept.Kept.{Kept}
 use Rattle.jp_c.specs.declared.outcome.Outcome as outcome
 use Rattle.jp_c.specs.declared.outcome.Outcome.TheVariants.{Text, Usage, Fault, Misread}
+
+few-if : (b : Bool) (k : ℕ) (l : Location) (o : Option Value)
+    → first_nodes (if b then None else Some (suc k)) (map (node_at l) (option_to_list o))
+    ≡ map (node_at l) (option_to_list o)
+few-if true k l o = refl
+few-if false k l None = refl
+few-if false zero l (Some v) = refl
+few-if false (suc k) l (Some v) = refl
+
+-- where there is one node at most, as many as are asked for are all
+first-few : (count : ℕ) (l : Location) (o : Option Value)
+    → first_nodes (most_of count) (map (node_at l) (option_to_list o))
+    ≡ map (node_at l) (option_to_list o)
+first-few zero l o = refl
+first-few (suc k) l o = few-if (suc k == 0) k l o
+
+-- the line of the node at the location that the query names is the answer
+pub named_answer : (form : Form) (count : ℕ) (q : QueryTree) (bytes after : List ℕ)
+    → Fits bytes → AnswersNamed form q bytes [] after
+    → (d : Value) × IsDocument bytes d × Fits bytes × (after ≡ answer_of count form q d)
+named_answer form count q bytes after fits x = (
+  x.d,
+  x.document,
+  fits,
+  x.lines
+      ∙ ap (lines_of form) (sym (ap (first_nodes (most_of count)) (x.names x.d)
+      ∙ first-few count x.l (value_at x.d x.l))),
+)
 
 module _ (limit form count : ℕ) (query : Option Kept) (f : Form) (q : QueryTree) (bytes : List ℕ)
     (is : IsAskedOf form query f q) (steps : ℕ) where
