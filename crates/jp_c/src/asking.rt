@@ -112,7 +112,7 @@ fn asked(
     count: u64,
     limit: u64,
 ) -> (Lent, Report)
-    ensures { Asks (λ k. Within limit (IsAskedOutcome form count given k))
+    ensures { Asks (λ k. Within limit (IsAskedOutcome form count given.entry k))
         (option_map (λ b. b.value) kept.old) (option_map (λ b. b.value) kept.new) result.0 result.1 }
 {
     match kept {
@@ -130,7 +130,7 @@ fn asked_of_box(
     count: u64,
     limit: u64,
 ) -> (Lent, Report)
-    ensures { Asks (λ k. Within limit (IsAskedOutcome form count given k))
+    ensures { Asks (λ k. Within limit (IsAskedOutcome form count given.entry k))
         (Some kept.old.value) (Some kept.new.value) result.0 result.1 }
 {
     asked_of(alloc, kept.as_mut(), given, form, count, limit)
@@ -145,7 +145,7 @@ fn asked_of(
     count: u64,
     limit: u64,
 ) -> (Lent, Report)
-    ensures { Asks (λ k. Within limit (IsAskedOutcome form_number count given k))
+    ensures { Asks (λ k. Within limit (IsAskedOutcome form_number count given.entry k))
         (Some kept.old) (Some kept.new) result.0 result.1 }
 {
     let Some(form) = form(form_number) else {
