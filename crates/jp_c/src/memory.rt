@@ -1,4 +1,5 @@
 //! The memory of what is asked with a query that is kept, which goes from one call to the next.
+ghost use Rattle.std.specs.Prelude.{◌≡◌};
 
 use crate::emptied::{Frames, frames_again, steps_again};
 use jp_command::Rooms;
@@ -58,7 +59,9 @@ impl Memory {
 
 impl Memory {
     /// The memory of documents, without which it is left.
-    pub(crate) fn take_room(&mut self, alloc: Global) -> Room {
+    pub(crate) fn take_room(&mut self, alloc: Global) -> Room
+        ensures { self.new.text ≡ self.old.text }
+    {
         mem::replace(&mut self.room, Room::new(alloc))
     }
 }
