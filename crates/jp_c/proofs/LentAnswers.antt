@@ -78,7 +78,7 @@ module _ (limit form count : ℕ) (query : Option Kept) (f : Form) (q : QueryTre
       → IsPlaced bytes o p → IsAllowed p
   told_of_bytes text (Ok u) o p made same here none makes counts placed =
       subst IsAllowed (sym (subst (λ x. IsPlaced bytes x p) same placed)) (
-        (f, q, here.0, is, here.1),
+        (f, q, here.0, is, here.1, here.2, here.3),
         subst (λ s. MakesSteps limit (Text text) s) (sym counts)
             (subst (λ x. MakesSteps limit x made) same makes),
       )
@@ -121,3 +121,7 @@ asked_of_document form count query document d (Fault fault) there is = (
   record { form_is = is.2.form_is; query_is = is.2.query_is; document_is = there },
   is.3,
 )
+
+pub on_ok : {A E P Q : Type 0} (r : Result A E) → (P → Q) → OnOk r P → OnOk r Q
+on_ok (Ok x) f p = f p
+on_ok (Err e) f p = p

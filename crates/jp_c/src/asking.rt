@@ -69,10 +69,7 @@ pub extern "C" fn jp_ask_document(
 {
     let mut kept = Handle::take(alloc, query);
     let other = Handle::take(alloc, document);
-    let (lent, told) = match flat_of(&other) {
-        Some(flat) => asked(alloc, &mut kept, Given::Document(flat), form, count, limit),
-        None => usage(),
-    };
+    let (lent, told) = asked_of_other(alloc, &mut kept, &other, form, count, limit);
     *query = Handle::of_any(alloc, kept);
     *document = Handle::of_any(alloc, other);
     *text = lent;
@@ -100,6 +97,25 @@ fn flat_of(kept: &Option<Box<Kept, Global>>) -> Option<&Flat<'static>>
             Kept::Query(_) => None,
         },
         None => None,
+    }
+}
+
+/// The answer of what is kept about what another handle keeps, and its report.
+fn asked_of_other(
+    alloc: Global,
+    kept: &mut Option<Box<Kept, Global>>,
+    other: &Option<Box<Kept, Global>>,
+    form: u32,
+    count: u64,
+    limit: u64,
+) -> (Lent, Report)
+    ensures { Asks (λ k. Within limit
+        (IsAskDocumentOutcome form count k (option_map (λ b. b.value) other.now)))
+        (option_map (λ b. b.value) kept.old) (option_map (λ b. b.value) kept.new) result.0 result.1 }
+{
+    match flat_of(other) {
+        Some(flat) => asked(alloc, kept, Given::Document(flat), form, count, limit),
+        None => usage(),
     }
 }
 
