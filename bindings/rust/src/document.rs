@@ -26,7 +26,7 @@ impl Document {
             status::DONE => Ok(Document {
                 handle: Mutex::new(handle),
             }),
-            _ => Err(Error::of_document(&report, text)),
+            _ => Err(Error::of_document(&report, text, bytes)),
         }
     }
 

@@ -1,8 +1,8 @@
 //! Why there is no answer.
 
-use crate::numbers::{part, status, DocumentKind, QueryKind};
+use crate::numbers::{document_part, part, status, DocumentKind, QueryKind};
 use crate::query::Profile;
-use crate::raw::{self, Report};
+use crate::raw::{self, Place, Report};
 use std::fmt;
 
 /// Why there is no answer.
@@ -12,7 +12,7 @@ pub enum Error {
     /// The query is refused.
     Query(Box<QueryError>),
     /// The document is refused.
-    Document(DocumentError),
+    Document(Box<DocumentError>),
     /// The query needs more steps over the document than its limit, which is this.
     StepsUsedUp(u64),
     /// Memory ran out.
@@ -37,24 +37,28 @@ pub struct QueryError {
 pub struct DocumentError {
     kind: DocumentKind,
     path: Option<String>,
+    offset: usize,
+    line: usize,
+    column: usize,
+    reason: String,
+    sentence: String,
 }
 
 impl Error {
-    /// The error of a report whose status is that of no answer.
+    /// The error of a report whose status is that of no answer, over no document.
     pub(crate) fn of_query(report: &Report, query: &str, profile: Profile) -> Self {
         match report.status {
             status::QUERY_REFUSED => Error::Query(Box::new(QueryError::of(report, query, profile))),
-            _ => Error::of_document(report, String::new()),
+            _ => Error::of_document(report, String::new(), &[]),
         }
     }
 
     /// The same where no query was read. The text is the path of a number that is not whole.
-    pub(crate) fn of_document(report: &Report, text: String) -> Self {
+    pub(crate) fn of_document(report: &Report, text: String, document: &[u8]) -> Self {
         match report.status {
-            status::DOCUMENT_REFUSED => Error::Document(DocumentError {
-                kind: DocumentKind::of(report.kind).expect("a kind that jp.h names"),
-                path: Some(text).filter(|path| !path.is_empty()),
-            }),
+            status::DOCUMENT_REFUSED => {
+                Error::Document(Box::new(DocumentError::of(report, text, document)))
+            }
             status::NO_MEMORY => Error::NoMemory,
             status::STEPS_USED_UP => Error::StepsUsedUp(report.steps),
             status::NO_STACK => Error::NoStack,
@@ -110,6 +114,51 @@ impl QueryError {
 }
 
 impl DocumentError {
+    fn of(report: &Report, path: String, document: &[u8]) -> Self {
+        let (place, reason) = raw::explain_document(document, document_part::DOCUMENT_REASON);
+        let Place {
+            offset,
+            line,
+            column,
+        } = place;
+        DocumentError {
+            kind: DocumentKind::of(report.kind).expect("a kind that jp.h names"),
+            path: Some(path).filter(|path| !path.is_empty()),
+            offset,
+            line,
+            column,
+            reason,
+            sentence: raw::explain_document(document, document_part::DOCUMENT_SENTENCE).1,
+        }
+    }
+
+    /// The byte through which no JSON text goes on, or where what is wrong begins, from 0; the document's length
+    /// where it ends too soon.
+    pub fn offset(&self) -> usize {
+        self.offset
+    }
+
+    /// The number of that byte's line, from 1; 0 where nothing was read, as of
+    /// [`DocumentKind::DocumentTooLarge`], or memory ran out.
+    pub fn line(&self) -> usize {
+        self.line
+    }
+
+    /// Its column in that line, in characters from 1; 0 where the line is.
+    pub fn column(&self) -> usize {
+        self.column
+    }
+
+    /// The name of the reason, as `TrailingComma`. Empty where the line is 0.
+    pub fn reason(&self) -> &str {
+        &self.reason
+    }
+
+    /// Why it is refused, told to whoever wrote it. The wording may change. Empty where the line is 0.
+    pub fn sentence(&self) -> &str {
+        &self.sentence
+    }
+
     /// What is wrong with it.
     pub fn kind(&self) -> DocumentKind {
         self.kind
@@ -151,10 +200,17 @@ impl fmt::Display for QueryError {
 impl fmt::Display for DocumentError {
     fn fmt(&self, f: &mut fmt::Formatter<'_>) -> fmt::Result {
         write!(f, "document refused: {}", self.kind)?;
-        match &self.path {
-            Some(path) => write!(f, " at {path}"),
-            None => Ok(()),
+        if let Some(path) = &self.path {
+            write!(f, " at {path}")?;
         }
+        if self.line > 0 {
+            write!(
+                f,
+                ": line {}, column {}: {}",
+                self.line, self.column, self.sentence
+            )?;
+        }
+        Ok(())
     }
 }
 

@@ -80,9 +80,14 @@ impl Queries {
             let (text, after) = rest.split_at(question.report.length);
             rest = after;
             let query = &self.text[start..end];
-            answers.push(
-                answer(&question.report, text.to_owned(), query, self.profile).map(Nodes::of_lines),
+            let answer = answer(
+                &question.report,
+                text.to_owned(),
+                query,
+                self.profile,
+                document,
             );
+            answers.push(answer.map(Nodes::of_lines));
         }
         answers
     }

@@ -8,7 +8,11 @@ use crate::raw::{self, Handle, Report};
 use std::fmt;
 use std::num::NonZeroU64;
 use std::str::FromStr;
-use std::sync::{Mutex, PoisonError};
+use std::sync::{Mutex, PoisonError, TryLockError};
+
+/// How many nodes are asked for at most.
+const ALL: u64 = 0;
+const ONE: u64 = 1;
 
 /// Which functions a query may call.
 #[derive(Clone, Copy, Debug, Default, PartialEq, Eq, Hash)]
@@ -128,14 +132,32 @@ impl Query {
         self.limit
     }
 
-    /// The nodes that it selects in a JSON text.
+    /// The nodes that it selects in a JSON text. The memory that this takes stays with the query for the next
+    /// document, so asking one query again and again is cheap.
     ///
     /// # Errors
     ///
     /// [`Error::Document`] where the bytes are no document, [`Error::StepsUsedUp`] where there is a limit and
     /// the query needs more steps, [`Error::NoMemory`] and [`Error::NoStack`].
     pub fn find(&self, document: &[u8]) -> Result<Nodes, Error> {
-        self.lines(form::BOTH, document).map(Nodes::of_lines)
+        self.lines(form::BOTH, ALL, document).map(Nodes::of_lines)
+    }
+
+    /// The first of these nodes alone, with which the evaluation stops: there is one of [`Nodes`], or none.
+    ///
+    /// # Errors
+    ///
+    /// Those of [`find`](Self::find).
+    ///
+    /// ```
+    /// use jsonpath_jp::Query;
+    ///
+    /// let first = Query::parse("$..a")?.find_first(br#"[{"a":1},{"a":2}]"#)?;
+    /// assert_eq!(first.only().map(|node| node.path()), Some("$[0]['a']"));
+    /// # Ok::<(), jsonpath_jp::Error>(())
+    /// ```
+    pub fn find_first(&self, document: &[u8]) -> Result<Nodes, Error> {
+        self.lines(form::BOTH, ONE, document).map(Nodes::of_lines)
     }
 
     /// The nodes that it selects in a document that is kept.
@@ -144,26 +166,37 @@ impl Query {
     ///
     /// Those of [`find`](Self::find), but for [`Error::Document`].
     pub fn find_in(&self, document: &Document) -> Result<Nodes, Error> {
-        self.lines_in(form::BOTH, document).map(Nodes::of_lines)
+        self.lines_in(form::BOTH, ALL, document)
+            .map(Nodes::of_lines)
     }
 
-    /// Whether it selects any node in a JSON text.
+    /// The first of these nodes alone, with which the evaluation stops.
+    ///
+    /// # Errors
+    ///
+    /// Those of [`find_in`](Self::find_in).
+    pub fn find_first_in(&self, document: &Document) -> Result<Nodes, Error> {
+        self.lines_in(form::BOTH, ONE, document)
+            .map(Nodes::of_lines)
+    }
+
+    /// Whether it selects any node in a JSON text. The evaluation stops at the first.
     ///
     /// # Errors
     ///
     /// Those of [`find`](Self::find).
     pub fn exists(&self, document: &[u8]) -> Result<bool, Error> {
-        self.lines(form::PATHS, document)
+        self.lines(form::PATHS, ONE, document)
             .map(|lines| !lines.is_empty())
     }
 
-    /// Whether it selects any node in a document that is kept.
+    /// Whether it selects any node in a document that is kept. The evaluation stops at the first.
     ///
     /// # Errors
     ///
     /// Those of [`find_in`](Self::find_in).
     pub fn exists_in(&self, document: &Document) -> Result<bool, Error> {
-        self.lines_in(form::PATHS, document)
+        self.lines_in(form::PATHS, ONE, document)
             .map(|lines| !lines.is_empty())
     }
 
@@ -181,30 +214,43 @@ impl Query {
     /// ```
     pub fn canonical(&self) -> Result<String, Error> {
         let (report, text) = raw::canon(self.text.as_bytes(), self.profile.number());
-        self.answer(&report, text)
+        self.answer(&report, text, &[])
     }
 
-    fn lines(&self, form: u32, document: &[u8]) -> Result<String, Error> {
-        let (report, text) = raw::eval(
-            self.text.as_bytes(),
-            document,
-            form,
-            self.profile.number(),
-            steps(self.limit),
-        );
-        self.answer(&report, text)
+    /// The lines of so many nodes in a JSON text.
+    fn lines(&self, form: u32, count: u64, document: &[u8]) -> Result<String, Error> {
+        let (report, text) = match self.handle.try_lock() {
+            Ok(mut query) => query.ask(document, form, count, steps(self.limit)),
+            Err(TryLockError::Poisoned(query)) => {
+                query
+                    .into_inner()
+                    .ask(document, form, count, steps(self.limit))
+            }
+            // Another thread asks the query, which is read anew so that none waits for it.
+            Err(TryLockError::WouldBlock) => {
+                let mut query = Handle::empty();
+                let report = query.keep_query(self.text.as_bytes(), self.profile.number());
+                match report.status {
+                    status::DONE => query.ask(document, form, count, steps(self.limit)),
+                    _ => (report, String::new()),
+                }
+            }
+        };
+        self.answer(&report, text, document)
     }
 
-    fn lines_in(&self, form: u32, document: &Document) -> Result<String, Error> {
+    /// The lines of so many nodes in a document that is kept.
+    fn lines_in(&self, form: u32, count: u64, document: &Document) -> Result<String, Error> {
         // Each call locks a query before a document, so that none waits for another's.
         let mut query = self.handle.lock().unwrap_or_else(PoisonError::into_inner);
-        let (report, text) = query.select(&mut document.lock(), form, steps(self.limit));
-        self.answer(&report, text)
+        let (report, text) =
+            query.ask_document(&mut document.lock(), form, count, steps(self.limit));
+        self.answer(&report, text, &[])
     }
 
     /// The text of an outcome, or the error that it stands for.
-    fn answer(&self, report: &Report, text: String) -> Result<String, Error> {
-        answer(report, text, &self.text, self.profile)
+    fn answer(&self, report: &Report, text: String, document: &[u8]) -> Result<String, Error> {
+        answer(report, text, &self.text, self.profile, document)
     }
 }
 
@@ -219,10 +265,11 @@ pub(crate) fn answer(
     text: String,
     query: &str,
     profile: Profile,
+    document: &[u8],
 ) -> Result<String, Error> {
     match report.status {
         status::DONE => Ok(text),
-        status::DOCUMENT_REFUSED => Err(Error::of_document(report, text)),
+        status::DOCUMENT_REFUSED => Err(Error::of_document(report, text, document)),
         _ => Err(Error::of_query(report, query, profile)),
     }
 }

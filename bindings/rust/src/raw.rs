@@ -33,6 +33,25 @@ pub(crate) struct Question {
     pub(crate) report: Report,
 }
 
+/// Where a document that is refused goes wrong.
+#[derive(Clone, Copy, Default)]
+#[repr(C)]
+pub(crate) struct Place {
+    pub(crate) offset: usize,
+    pub(crate) line: usize,
+    pub(crate) column: usize,
+}
+
+/// A text that a handle lends until its next call. There is nothing at the start where the length is 0.
+#[repr(C)]
+struct Text {
+    start: *const u8,
+    length: usize,
+}
+
+// SAFETY: what is lent is read only while its handle is ours alone.
+unsafe impl Send for Text {}
+
 /// Keeps a query, a document or nothing.
 #[repr(C)]
 pub(crate) struct Handle {
@@ -47,10 +66,6 @@ unsafe impl Send for Handle {}
 #[rustfmt::skip]
 extern "C" {
     fn jp_version() -> u32;
-    fn jp_eval(
-        query: *const u8, query_length: usize, document: *const u8, document_length: usize,
-        form: u32, profile: u32, limit: u64, out: *mut u8, out_length: usize, report: *mut Report,
-    ) -> u32;
     fn jp_eval_many(
         queries: *const u8, queries_length: usize, questions: *mut Question, questions_length: usize,
         document: *const u8, document_length: usize, form: u32, profile: u32, limit: u64,
@@ -71,9 +86,17 @@ extern "C" {
         document: *const u8, document_length: usize, handle: *mut Handle,
         out: *mut u8, out_length: usize, report: *mut Report,
     ) -> u32;
-    fn jp_select(
-        query: *mut Handle, document: *mut Handle, form: u32, limit: u64,
+    fn jp_explain_document(
+        document: *const u8, document_length: usize, part: u32, place: *mut Place,
         out: *mut u8, out_length: usize, report: *mut Report,
+    ) -> u32;
+    fn jp_ask(
+        query: *mut Handle, document: *const u8, document_length: usize,
+        form: u32, count: u64, limit: u64, text: *mut Text, report: *mut Report,
+    ) -> u32;
+    fn jp_ask_document(
+        query: *mut Handle, document: *mut Handle,
+        form: u32, count: u64, limit: u64, text: *mut Text, report: *mut Report,
     ) -> u32;
     fn jp_clear(handle: *mut Handle);
 }
@@ -82,33 +105,6 @@ extern "C" {
 pub(crate) fn version() -> u32 {
     // SAFETY: the call takes nothing.
     unsafe { jp_version() }
-}
-
-/// What `jp_eval` writes.
-pub(crate) fn eval(
-    query: &[u8],
-    document: &[u8],
-    form: u32,
-    profile: u32,
-    limit: u64,
-) -> (Report, String) {
-    written(|out, length, report| {
-        // SAFETY: each pointer is to as many bytes as the length beside it says.
-        unsafe {
-            jp_eval(
-                query.as_ptr(),
-                query.len(),
-                document.as_ptr(),
-                document.len(),
-                form,
-                profile,
-                limit,
-                out,
-                length,
-                report,
-            )
-        };
-    })
 }
 
 /// What `jp_eval_many` writes; the questions get their reports.
@@ -173,6 +169,26 @@ pub(crate) fn explain(query: &[u8], profile: u32, part: u32) -> String {
     text
 }
 
+/// What `jp_explain_document` writes, and where the document goes wrong.
+pub(crate) fn explain_document(document: &[u8], part: u32) -> (Place, String) {
+    let mut place = Place::default();
+    let (_, text) = written(|out, length, report| {
+        // SAFETY: each pointer is to as many bytes as the length beside it says.
+        unsafe {
+            jp_explain_document(
+                document.as_ptr(),
+                document.len(),
+                part,
+                &mut place,
+                out,
+                length,
+                report,
+            )
+        };
+    });
+    (place, text)
+}
+
 impl Handle {
     /// A handle that keeps nothing.
     pub(crate) fn empty() -> Self {
@@ -202,16 +218,42 @@ impl Handle {
         })
     }
 
-    /// What `jp_select` writes for the query that this handle keeps, and the document that the other does.
-    pub(crate) fn select(
+    /// What `jp_ask` lends of the query that this handle keeps, over a JSON text.
+    pub(crate) fn ask(
+        &mut self,
+        document: &[u8],
+        form: u32,
+        count: u64,
+        limit: u64,
+    ) -> (Report, String) {
+        lent(|text, report| {
+            // SAFETY: the document is as long as its length says, and the handle is ours alone.
+            unsafe {
+                jp_ask(
+                    self,
+                    document.as_ptr(),
+                    document.len(),
+                    form,
+                    count,
+                    limit,
+                    text,
+                    report,
+                )
+            };
+        })
+    }
+
+    /// What `jp_ask_document` lends of the query that this handle keeps, over the document that the other does.
+    pub(crate) fn ask_document(
         &mut self,
         document: &mut Handle,
         form: u32,
+        count: u64,
         limit: u64,
     ) -> (Report, String) {
-        written(|out, length, report| {
-            // SAFETY: the two handles are not the same, and ours alone; the buffer is as long as it says.
-            unsafe { jp_select(self, document, form, limit, out, length, report) };
+        lent(|text, report| {
+            // SAFETY: the two handles are not the same, and ours alone.
+            unsafe { jp_ask_document(self, document, form, count, limit, text, report) };
         })
     }
 
@@ -248,6 +290,28 @@ fn written(mut call: impl FnMut(*mut u8, usize, &mut Report) + Send) -> (Report,
     unsafe { bytes.set_len(report.length) };
     let text = String::from_utf8(bytes).expect("jp writes UTF-8");
     (report, text)
+}
+
+/// The report and a copy of the text of a call that lends one, made on a thread of its own where this one has too
+/// little stack.
+fn lent(mut call: impl FnMut(&mut Text, &mut Report) + Send) -> (Report, String) {
+    let mut report = Report::default();
+    let mut text = Text {
+        start: std::ptr::null(),
+        length: 0,
+    };
+    call(&mut text, &mut report);
+    if report.status == status::NO_STACK {
+        // Where no thread can be had, the report says still that there is too little stack.
+        let _ = on_a_thread(|| call(&mut text, &mut report));
+    }
+    let bytes = match text.length {
+        0 => &[][..],
+        // SAFETY: so many bytes are lent until the next call with the handle, which the caller has alone.
+        length => unsafe { std::slice::from_raw_parts(text.start, length) },
+    };
+    let copy = std::str::from_utf8(bytes).expect("jp lends UTF-8");
+    (report, copy.to_owned())
 }
 
 fn call_with_room(

@@ -194,7 +194,52 @@ fn refused_documents() {
         }
     }
     let fault = find("$", "[2.5]").unwrap_err();
-    assert_eq!(fault.to_string(), "document refused: NotWhole at $[0]");
+    assert_eq!(
+        fault.to_string(),
+        "document refused: NotWhole at $[0]: line 1, column 2: A number with a fraction or an exponent is no whole number."
+    );
+}
+
+#[test]
+fn where_a_document_goes_wrong() {
+    let document = "{\"ä\":[1,\n2,]}";
+    for answer in [
+        find("$.b", document),
+        find("$..b", document),
+        Document::parse(document.as_bytes()).map(|_| Nodes::default()),
+        Queries::new(["$"]).find(document.as_bytes()).pop().unwrap(),
+    ] {
+        let Err(Error::Document(fault)) = answer else {
+            panic!("it is refused")
+        };
+        assert_eq!((fault.offset(), fault.line(), fault.column()), (12, 2, 3));
+        assert_eq!(fault.reason(), "TrailingComma");
+        assert_eq!(
+            fault.sentence(),
+            "No comma may come before a closing bracket."
+        );
+    }
+}
+
+#[test]
+fn the_first_node_alone() {
+    let query = Query::parse("$..a").unwrap();
+    let text = br#"{"a":[{"a":1},{"a":2}]}"#;
+    let document = Document::parse(text).unwrap();
+    for first in [query.find_first(text), query.find_first_in(&document)] {
+        let first = first.unwrap();
+        let node = first.only().unwrap();
+        assert_eq!(
+            (node.path(), node.value()),
+            ("$['a']", r#"[{"a":1},{"a":2}]"#)
+        );
+    }
+    for (text, is_there) in [(&b"[{}]"[..], false), (b"[{\"a\":0}]", true)] {
+        let document = Document::parse(text).unwrap();
+        assert_eq!(query.find_first(text).unwrap().is_empty(), !is_there);
+        assert_eq!(query.exists(text).unwrap(), is_there);
+        assert_eq!(query.exists_in(&document).unwrap(), is_there);
+    }
 }
 
 /// How many steps a query needs: one for each value that is offered and for the end, a segment's selectors and
