@@ -9,15 +9,15 @@ use Rattle.jsonpath.specs.declared.fault.FindFault.{FindFault}
 use Rattle.jp_c.specs.Handles.{document_kept, query_kept}
 use Rattle.jp_c.specs.declared.kept.Kept.{Kept}
 use Rattle.jp_c.specs.declared.kept.Kept.TheVariants.{Query, Document}
-use Rattle.jp_check.specs.Checked.{Profiled}
+use Rattle.jp_c.specs.declared.kept.Asker.{Asker}
 use Rattle.jp_flat.specs.FlatValue.{document_in}
 use Rattle.jp_flat.specs.declared.flat.Flat as flat
 use Rattle.jp_tree.specs.Views.{query_of}
 
-pub query_there : (kept : Option (Box Kept Global)) (b : Box Kept Global) (seen : Kept) (q : Profiled)
-    → kept ≡ Some b → seen ≡ b.value → seen ≡ Query q
-    → query_kept (option_map (λ b. b.value) kept) ≡ Some (query_of q.query)
-query_there kept b seen q some same is =
+pub query_there : (kept : Option (Box Kept Global)) (b : Box Kept Global) (seen : Kept) (a : Asker)
+    → kept ≡ Some b → seen ≡ b.value → seen ≡ Query a
+    → query_kept (option_map (λ b. b.value) kept) ≡ Some (query_of a.query.query)
+query_there kept b seen a some same is =
     ap (λ k. query_kept (option_map (λ b. b.value) k)) some
     ∙ ap (λ k. query_kept (Some k)) (sym same ∙ is)
 

@@ -9,7 +9,7 @@ use Rattle.jp_c.proofs.select.select_outcome.Goals as goal
 pub returns : goal.returns
 returns c =
     let form = c.in-Some.form in
-    let q = query_of c.in-Query-Document.query.query in
+    let q = query_of c.in-Query-Document.asker.query.query in
     let selected : IsSelected c.args.form_number (option_map (λ b. b.value) c.args.query.now)
     (option_map (λ b. b.value) c.args.document.now) form q
     (document_in c.in-Query-Document.document) = record {
