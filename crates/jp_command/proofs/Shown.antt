@@ -22,9 +22,13 @@ same_value form k l v is =
 pub values_shown : {V M E : Type 0} (form : Form) (m : V → Value) (v : LentNodes V M)
     (steps : Vec Step Global) (r : Option (Result V E)) (w : LentNodes V M) → form ≡ Values
     → GivesNextValue m v r w → GivesShown form m v steps r w
-values_shown form m v steps (Some (Ok x)) w is given =
-    (node_at given.0 (m x), given.1.0, given.1.1, given.1.2,
-    same_value form given.0 (lent_node m (steps, x)).location (m x) is)
+values_shown form m v steps (Some (Ok x)) w is given = (
+  node_at given.0 (m x),
+  given.1.0,
+  given.1.1,
+  given.1.2,
+  same_value form given.0 (lent_node m (steps, x)).location (m x) is,
+)
 values_shown form m v steps (Some (Err e)) w is given = given.1
 values_shown form m v steps None w is given = given.1
 

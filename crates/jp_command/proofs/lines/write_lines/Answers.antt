@@ -32,8 +32,8 @@ returns-in_default-write_all-clause-stopped g c =
     let given = rw (c.in-Some.is, c.in_ok-value.was) at c.next_unlimited.ensures.gives in
     let n = given.0 in
     let shown : c.as_bytes.result.now
-        ≡ behind (lent_node g.V.Lent.meaning (c.next_unlimited.new.location, c.in_ok-value.value)) =
-        search rules in
+    ≡ behind (lent_node g.V.Lent.meaning (c.next_unlimited.new.location, c.in_ok-value.value)) =
+    search rules in
     let line = shown ∙ sym (line_alike c.args.lead.now c.args.form n _ given.4) in (
       part-is_prefix g.W.Writer.contents g.W.Writer.has_failed g.W.Writer.write_takes behind _ _ _ _
           (given_part g.W.Writer.contents g.W.Writer.has_failed g.W.Writer.write_takes behind _ _ _ n _ _ _
@@ -61,8 +61,8 @@ returns-in_default-write_all-clause-as_found g c =
     let given = rw (c.in-Some.is, c.in_ok-value.was) at c.next_unlimited.ensures.gives in
     let n = given.0 in
     let shown : c.as_bytes.result.now
-        ≡ behind (lent_node g.V.Lent.meaning (c.next_unlimited.new.location, c.in_ok-value.value)) =
-        search rules in
+    ≡ behind (lent_node g.V.Lent.meaning (c.next_unlimited.new.location, c.in_ok-value.value)) =
+    search rules in
     let line = shown ∙ sym (line_alike c.args.lead.now c.args.form n _ given.4) in (
       given.2,
       given_part g.W.Writer.contents g.W.Writer.has_failed g.W.Writer.write_takes behind _ _ _ n _ _ _
@@ -82,8 +82,8 @@ loop-next-preserved g c =
     let given = rw (c.in-Some.is, c.in_ok-value.was) at c.next_unlimited.ensures.gives in
     let n = given.0 in
     let shown : c.as_bytes.result.now
-        ≡ behind (lent_node g.V.Lent.meaning (c.next_unlimited.new.location, c.in_ok-value.value)) =
-        search rules in
+    ≡ behind (lent_node g.V.Lent.meaning (c.next_unlimited.new.location, c.in_ok-value.value)) =
+    search rules in
     let line = shown ∙ sym (line_alike c.args.lead.now c.args.form n _ given.4) in
     record {
       front = search rules;

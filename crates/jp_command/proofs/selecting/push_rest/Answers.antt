@@ -18,18 +18,18 @@ loop-form-preserved g c =
     let given = rw (c.in-Some.is, c.in_ok-value.was) at c.next_shown.ensures.gives in
     let n = given.0 in
     let there = line_of c.args.form
-        (lent_node g.V.Lent.meaning (c.next_shown.new.location, c.in_ok-value.value)) in
+    (lent_node g.V.Lent.meaning (c.next_shown.new.location, c.in_ok-value.value)) in
     let led : string_bytes c.push_str.new.self ≡ old ++ c.args.lead.now = search rules in
     let lined : string_bytes c.push_line.new.line ≡ string_bytes c.push_str.new.self ++ there =
-        search rules in
+    search rules in
     let shown = lined ∙ ap (λ t. t ++ there) led ∙ append_assoc old c.args.lead.now there in
     let line : string_bytes c.push_line.new.line ≡ old ++ behind n =
-        shown ∙ ap (λ t. old ++ t) (sym (line_alike c.args.lead.now c.args.form n _ given.4)) in
+    shown ∙ ap (λ t. old ++ t) (sym (line_alike c.args.lead.now c.args.form n _ given.4)) in
     let more : is_more left ≡ true = sym c.is_more.ensures ∙ c.loop-form-test.true in
     let asked : n ∷ first_nodes c.one_less-left.result (rest c.next_shown.new.nodes)
-        ≡ first_nodes left (n ∷ rest c.next_shown.new.nodes) =
-        ap (λ o. n ∷ first_nodes o (rest c.next_shown.new.nodes)) c.one_less-left.ensures
-        ∙ sym (first_more left n (rest c.next_shown.new.nodes) more) in
+    ≡ first_nodes left (n ∷ rest c.next_shown.new.nodes) =
+    ap (λ o. n ∷ first_nodes o (rest c.next_shown.new.nodes)) c.one_less-left.ensures
+    ∙ sym (first_more left n (rest c.next_shown.new.nodes) more) in
     record {
       front = search rules;
       working = given.2;
