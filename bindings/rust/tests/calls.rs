@@ -243,18 +243,23 @@ fn the_first_node_alone() {
 }
 
 /// How many steps a query needs: one for each value that is offered and for the end, a segment's selectors and
-/// two more at each value that is gone into, and each comparison.
+/// two more at each value that is gone into, and each comparison. The first node comes before the end.
 #[test]
 fn a_limit_that_suffices_and_one_less() {
     let document = Document::parse(b"[1,2]").unwrap();
-    for (text, needed) in [("$[*]", 7), ("$..*", 9), ("$[?@==2]", 9)] {
+    for (text, needed, for_the_first) in [("$[*]", 7, 5), ("$..*", 9, 5), ("$[?@==2]", 9, 8)] {
         let query = Query::parse(text).unwrap().with_limit(steps(needed));
         assert!(query.find(b"[1,2]").is_ok() && query.find_in(&document).is_ok());
         let query = query.with_limit(steps(needed - 1));
         for answer in [query.find(b"[1,2]"), query.find_in(&document)] {
             assert_eq!(answer, Err(Error::StepsUsedUp(needed - 1)));
         }
-        assert_eq!(query.exists(b"[1,2]"), Err(Error::StepsUsedUp(needed - 1)));
+        let query = query.with_limit(steps(for_the_first));
+        assert!(query.exists(b"[1,2]").unwrap() && query.exists_in(&document).unwrap());
+        let query = query.with_limit(steps(for_the_first - 1));
+        for answer in [query.exists(b"[1,2]"), query.exists_in(&document)] {
+            assert_eq!(answer, Err(Error::StepsUsedUp(for_the_first - 1)));
+        }
     }
     let answers = Queries::new(["$[*]", "$..*", "$[01]", "$[*]"])
         .with_limit(steps(8))
