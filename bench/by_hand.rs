@@ -36,6 +36,33 @@ fn inside(out: Lines, value: &Value) -> io::Result<()> {
     children(value).try_for_each(|child| inside(out, child))
 }
 
+/// Writes the normalized paths of the members of this name of a value at that path and of all inside it. The
+/// names of the benchmark have no character that has to be escaped.
+fn paths_of_named(out: Lines, value: &Value, name: &str, path: &mut String) -> io::Result<()> {
+    let length = path.len();
+    match value {
+        Value::Array(items) => {
+            for (index, item) in items.iter().enumerate() {
+                path.push_str(&format!("[{index}]"));
+                paths_of_named(out, item, name, path)?;
+                path.truncate(length);
+            }
+        }
+        Value::Object(members) => {
+            for (key, member) in members {
+                path.push_str(&format!("['{key}']"));
+                if key == name {
+                    writeln!(out, "{path}")?;
+                }
+                paths_of_named(out, member, name, path)?;
+                path.truncate(length);
+            }
+        }
+        _ => (),
+    }
+    Ok(())
+}
+
 /// Writes what `take` gives of each item.
 fn of_each<'v>(
     out: Lines,
@@ -56,7 +83,7 @@ fn matching(out: Lines, list: &Value, name: &str, pattern: &str) -> io::Result<(
 
 fn run(task: &str, value: &Value, out: Lines) -> io::Result<()> {
     match task {
-        "parse and print" => line(out, value),
+        "parse and print" | "random names: print" => line(out, value),
         "$[*].name" => of_each(out, value, |item| item.get("name")),
         "$..price" => named(out, value, "price"),
         "$..*" => inside(out, value),
@@ -75,8 +102,9 @@ fn run(task: &str, value: &Value, out: Lines) -> io::Result<()> {
             Value::Array(items) => items.iter().rev().try_for_each(|item| line(out, item)),
             _ => Ok(()),
         },
-        "$.*" => children(value).try_for_each(|child| line(out, child)),
+        "$.*" | "random names: $.*" => children(value).try_for_each(|child| line(out, child)),
         "$..leaf" => named(out, value, "leaf"),
+        "paths of $..leaf" => paths_of_named(out, value, "leaf", &mut String::from("$")),
         _ => Err(io::Error::new(io::ErrorKind::InvalidInput, "no such task")),
     }
 }
