@@ -17,8 +17,6 @@ mod canonical;
 mod expressions;
 pub mod laws;
 mod segments;
-#[cfg(test)]
-mod tests;
 mod values;
 mod writer;
 

@@ -27,8 +27,6 @@ pub mod laws;
 mod profile;
 mod ranges;
 mod singular;
-#[cfg(test)]
-mod tests;
 
 pub use checked::{Checked, check, read_query};
 pub use jp_tree::Function;

@@ -28,8 +28,6 @@ mod path_fault;
 mod path_reader;
 mod reading;
 mod spelling;
-#[cfg(test)]
-mod tests;
 mod text;
 mod value;
 mod value_fault;

@@ -38,8 +38,6 @@ mod selecting;
 mod settled;
 mod singular;
 mod tally;
-#[cfg(test)]
-mod tests;
 mod walk;
 
 pub use each::Nodes;

@@ -26,8 +26,6 @@ mod reason;
 mod reasons;
 mod shown;
 mod suggestion;
-#[cfg(test)]
-mod tests;
 mod told;
 mod written;
 

@@ -39,8 +39,6 @@ mod runs;
 mod sorting;
 mod spans;
 mod tables;
-#[cfg(test)]
-mod tests;
 mod token;
 mod value_at;
 

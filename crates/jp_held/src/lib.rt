@@ -16,8 +16,6 @@
 
 mod document;
 mod reading;
-#[cfg(test)]
-mod tests;
 
 pub use document::Document;
 pub use reading::{read_flat, read_into, read_value_at, read_value_into};

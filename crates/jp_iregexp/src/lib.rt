@@ -24,8 +24,6 @@ mod pattern;
 mod position_count;
 mod quantifiers;
 mod read;
-#[cfg(test)]
-mod tests;
 
 pub use category::Category;
 pub use class::{CharClass, ClassElement};

@@ -24,8 +24,6 @@ mod reason;
 mod reasons;
 mod scalars;
 mod state;
-#[cfg(test)]
-mod tests;
 mod utf8;
 
 pub use levels::LEVEL_LIMIT;

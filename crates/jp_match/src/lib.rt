@@ -36,8 +36,6 @@ mod scan;
 mod search;
 mod stepping;
 mod sweep;
-#[cfg(test)]
-mod tests;
 mod whole;
 
 pub use class_tests::Tests;

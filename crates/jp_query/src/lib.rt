@@ -27,8 +27,6 @@ mod selectors;
 mod sides;
 mod slices;
 mod strings;
-#[cfg(test)]
-mod tests;
 
 pub use jp_reading::Span;
 pub use jp_tree::{

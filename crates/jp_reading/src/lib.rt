@@ -18,8 +18,6 @@ mod character_class;
 mod numbers;
 mod reader;
 mod span;
-#[cfg(test)]
-mod tests;
 
 pub use character_class::CharacterClass;
 pub use numbers::{LARGEST_EXACT, digit, is_at_digit, natural};

@@ -28,8 +28,6 @@ pub mod laws;
 mod selector;
 mod slice;
 mod steps;
-#[cfg(test)]
-mod tests;
 
 pub use candidates::{candidate, single};
 pub use comparable::Comparable;
