@@ -1,9 +1,9 @@
 //! Lines of selected nodes behind a text, in memory that goes from one document to the next.
 
-ghost use Rattle.std.specs.Prelude.{◌≡◌, ◌-◌, ◌++◌, OnOk, [], false, option_map, string_bytes};
+ghost use Rattle.std.specs.Prelude.{◌≡◌, ◌-◌, ◌++◌, OnOk, [], drop, false, option_map, string_bytes};
 ghost use Rattle.std.specs.List.{flat_map};
 ghost use Rattle.jp_command.specs.Lines.{line_behind, lines_of};
-ghost use Rattle.jp_command.specs.Selecting.{first_nodes};
+ghost use Rattle.jp_command.specs.Selecting.{first_nodes, nodes_behind};
 ghost use Rattle.jp_command.specs.Private.Firsts.{is_more};
 ghost use Rattle.jp_command.specs.Private.Fronts.{HasPathText};
 ghost use Rattle.jp_evaluate.specs.Lent.{has_failed, rest_of, steps_of};
@@ -40,12 +40,14 @@ pub struct Rooms<'d, V> {
 }
 
 /// Appends the lines of the nodes that the query selects in the document whose value is the root, in the
-/// nodelist's order (RFC 9535 section 2.1.2): of all, or of as many as `most` says, with which the
-/// evaluation stops. The evaluation takes from `steps` those that it makes. The errors are that memory ran
-/// out and that the steps are used up; after both nothing is said of what was appended.
+/// nodelist's order (RFC 9535 section 2.1.2), of those behind the first `from` ones: of all, or of as many as
+/// `most` says, with which the evaluation stops. The evaluation takes from `steps` those that it makes. The
+/// errors are that memory ran out and that the steps are used up; after both nothing is said of what was
+/// appended.
 pub fn push_selected<'d: 'q, 'q, V: Selectable + 'd>(
     alloc: Global,
     form: Form,
+    from: u64,
     most: Option<u64>,
     root: V,
     query: &'q Checked,
@@ -54,7 +56,7 @@ pub fn push_selected<'d: 'q, 'q, V: Selectable + 'd>(
     lines: &mut String,
 ) -> Result<(), EvaluationFault>
     ensures lines { OnOk result (string_bytes lines.new ≡ string_bytes lines.old
-        ++ lines_of form (first_nodes most (nodelist (query_of query.now.query) (V.meaning root)))) }
+        ++ lines_of form (nodes_behind from most (nodelist (query_of query.now.query) (V.meaning root)))) }
     ensures takes { Takes steps.old steps.new }
     ensures stopped { StopsSpent result steps.new }
 {
@@ -64,9 +66,9 @@ pub fn push_selected<'d: 'q, 'q, V: Selectable + 'd>(
     let front = mem::replace(&mut rooms.front, Vec::new(alloc));
     let path = mem::replace(&mut rooms.path, String::new(alloc));
     let mut front = Front::within(front, path);
-    let pushed = push_rest(
+    let pushed = push_behind(
         form,
-        "",
+        from,
         most,
         &mut nodes,
         &mut rooms.location,
@@ -77,6 +79,50 @@ pub fn push_selected<'d: 'q, 'q, V: Selectable + 'd>(
     rooms.path = front.text;
     (rooms.patterns, *steps, rooms.frames) = nodes.into_rooms();
     pushed
+}
+
+/// Appends the lines of the nodes that are still to come, behind the first `from` ones, of all or of so many.
+fn push_behind<'d: 'q, 'q, V: Selectable + 'd>(
+    form: Form,
+    from: u64,
+    most: Option<u64>,
+    nodes: &mut LentNodes<'d, 'q, V, Marks>,
+    location: &mut Vec<Step<'d>>,
+    front: &mut Front<'d>,
+    lines: &mut String,
+) -> Result<(), EvaluationFault>
+    requires working { has_failed nodes.now ≡ false }
+    requires front { HasPathText front.now }
+    ensures lines { OnOk result (string_bytes lines.new ≡ string_bytes lines.old
+        ++ lines_of form (nodes_behind from most (rest_of V.meaning nodes.old))) }
+    ensures takes { Takes (steps_of nodes.old) (steps_of nodes.new) }
+    ensures stopped { StopsSpent result (steps_of nodes.new) }
+{
+    pass_over(nodes, from)?;
+    push_rest(form, "", most, nodes, location, front, lines)
+}
+
+/// Passes over so many nodes, or over all where there are fewer.
+fn pass_over<'d: 'q, 'q, V: Selectable + 'd>(
+    nodes: &mut LentNodes<'d, 'q, V, Marks>,
+    count: u64,
+) -> Result<(), EvaluationFault>
+    requires working { has_failed nodes.now ≡ false }
+    ensures working { OnOk result (has_failed nodes.new ≡ false) }
+    ensures rest { OnOk result (rest_of V.meaning nodes.new
+        ≡ drop count (rest_of V.meaning nodes.old)) }
+    ensures takes { Takes (steps_of nodes.old) (steps_of nodes.new) }
+    ensures stopped { StopsSpent result (steps_of nodes.new) }
+{
+    let mut left = count;
+    while left > 0 {
+        let Some(next) = nodes.next_value() else {
+            return Ok(());
+        };
+        next?;
+        left -= 1;
+    }
+    Ok(())
 }
 
 /// Appends the lines of the nodes that are still to come, of all or of so many, each behind the text `lead`.
