@@ -173,7 +173,7 @@ static double measure_ask(const char *query, const char *bytes) {
     for (int round = 0; round < 5; round += 1) {
         double start = seconds();
         for (int call = 0; call < 2000; call += 1) {
-            jp_ask(&kept, (const uint8_t *)bytes, strlen(bytes), JP_VALUES, JP_ALL, JP_NO_LIMIT, &text, &report);
+            jp_ask(&kept, (const uint8_t *)bytes, strlen(bytes), JP_VALUES, 0, JP_ALL, JP_NO_LIMIT, &text, &report);
         }
         double took = (seconds() - start) / 2000;
         best = took < best ? took : best;

@@ -1,5 +1,6 @@
 /* Tests of the calls that lend their answers, with expected values by hand, and of how often memory is asked for.
- * It is linked with --wrap=malloc and --wrap=realloc, so that both come here first. */
+ * It is linked with --wrap=malloc and --wrap=realloc, so that both come here first. `asks CALLS` makes so many
+ * calls with one query in place of a million. */
 #include "jp.h"
 
 #include <stdio.h>
@@ -46,22 +47,29 @@ static int is_text(const struct jp_text *text, const char *expected) {
 static const struct {
     const char *query;
     uint32_t form;
+    uint64_t from;
     uint64_t count;
     const char *text;
 } rows[] = {
-    {"$.a[0]", JP_VALUES, JP_ALL, "7\n"},
-    {"$.a[0]", JP_BOTH, 1, "$['a'][0]\t7\n"},
-    {"$.a[3]", JP_BOTH, JP_ALL, ""},
-    {"$.a[1]", JP_VALUES, 5, "{\"b\":\"xy\",\"c\":[]}\n"},
-    {"$.d", JP_PATHS, JP_ALL, "$['d']\n"},
-    {"$", JP_PATHS, 1, "$\n"},
-    {"$.a[*]", JP_VALUES, JP_ALL, "7\n{\"b\":\"xy\",\"c\":[]}\n8\n"},
-    {"$.a[*]", JP_PATHS, 2, "$['a'][0]\n$['a'][1]\n"},
-    {"$..b", JP_BOTH, JP_ALL, "$['a'][1]['b']\t\"xy\"\n$['d']['b']\t-1\n"},
-    {"$..b", JP_VALUES, 1, "\"xy\"\n"},
-    {"$..x", JP_PATHS, 1, ""},
-    {"$.a[?@.b=='xy'].c", JP_PATHS, JP_ALL, "$['a'][1]['c']\n"},
-    {"$.a[-1]", JP_VALUES, JP_ALL, "8\n"},
+    {"$.a[0]", JP_VALUES, 0, JP_ALL, "7\n"},
+    {"$.a[0]", JP_BOTH, 0, 1, "$['a'][0]\t7\n"},
+    {"$.a[3]", JP_BOTH, 0, JP_ALL, ""},
+    {"$.a[1]", JP_VALUES, 0, 5, "{\"b\":\"xy\",\"c\":[]}\n"},
+    {"$.d", JP_PATHS, 0, JP_ALL, "$['d']\n"},
+    {"$", JP_PATHS, 0, 1, "$\n"},
+    {"$.a[*]", JP_VALUES, 0, JP_ALL, "7\n{\"b\":\"xy\",\"c\":[]}\n8\n"},
+    {"$.a[*]", JP_PATHS, 0, 2, "$['a'][0]\n$['a'][1]\n"},
+    {"$..b", JP_BOTH, 0, JP_ALL, "$['a'][1]['b']\t\"xy\"\n$['d']['b']\t-1\n"},
+    {"$..b", JP_VALUES, 0, 1, "\"xy\"\n"},
+    {"$..x", JP_PATHS, 0, 1, ""},
+    {"$.a[?@.b=='xy'].c", JP_PATHS, 0, JP_ALL, "$['a'][1]['c']\n"},
+    {"$.a[-1]", JP_VALUES, 0, JP_ALL, "8\n"},
+    {"$.a[*]", JP_VALUES, 1, 1, "{\"b\":\"xy\",\"c\":[]}\n"},
+    {"$.a[*]", JP_PATHS, 2, JP_ALL, "$['a'][2]\n"},
+    {"$.a[*]", JP_PATHS, 3, 1, ""},
+    {"$..b", JP_BOTH, 1, 9, "$['d']['b']\t-1\n"},
+    {"$.a[0]", JP_VALUES, 1, JP_ALL, ""},
+    {"$.a[0]", JP_VALUES, UINT64_MAX, UINT64_MAX, ""},
 };
 
 /* Each row, again and again: the same answer, and after the second call no request for memory. */
@@ -73,7 +81,7 @@ static void try_row(size_t at) {
     size_t before = 0;
     for (int call = 0; call < 4; call += 1) {
         before = call == 2 ? requests : before;
-        uint32_t status = jp_ask(&query, (const uint8_t *)DOCUMENT, strlen(DOCUMENT), rows[at].form,
+        uint32_t status = jp_ask(&query, (const uint8_t *)DOCUMENT, strlen(DOCUMENT), rows[at].form, rows[at].from,
                                  rows[at].count, JP_NO_LIMIT, &text, &report);
         expect(status == JP_DONE && report.status == status && report.length == text.length, "the report",
                rows[at].query);
@@ -84,8 +92,8 @@ static void try_row(size_t at) {
     jp_document_new((const uint8_t *)DOCUMENT, strlen(DOCUMENT), &document, room, 0, &report);
     for (int call = 0; call < 4; call += 1) {
         before = call == 2 ? requests : before;
-        uint32_t status = jp_ask_document(&query, &document, rows[at].form, rows[at].count, JP_NO_LIMIT, &text,
-                                          &report);
+        uint32_t status = jp_ask_document(&query, &document, rows[at].form, rows[at].from, rows[at].count,
+                                          JP_NO_LIMIT, &text, &report);
         expect(status == JP_DONE && report.length == text.length, "the report of a document", rows[at].query);
         expect(is_text(&text, rows[at].text), "the text of a document", rows[at].query);
     }
@@ -96,7 +104,7 @@ static void try_row(size_t at) {
 
 static uint32_t ask(struct jp_handle *query, const char *document, uint64_t limit, struct jp_text *text,
                     struct jp_report *report) {
-    return jp_ask(query, (const uint8_t *)document, strlen(document), JP_VALUES, JP_ALL, limit, text, report);
+    return jp_ask(query, (const uint8_t *)document, strlen(document), JP_VALUES, 0, JP_ALL, limit, text, report);
 }
 
 /* One document after another: nothing of the one before is left. */
@@ -142,23 +150,220 @@ static void try_refused(void) {
     expect(ask(&query, "[1,]", JP_NO_LIMIT, &text, &report) == JP_DOCUMENT_REFUSED && text.length == 0
                && report.kind == JP_NOT_JSON,
            "no JSON", "[1,]");
-    expect(jp_ask(&query, (const uint8_t *)"[]", 2, 3, JP_ALL, JP_NO_LIMIT, &text, &report) == JP_USAGE
+    expect(jp_ask(&query, (const uint8_t *)"[]", 2, 3, 0, JP_ALL, JP_NO_LIMIT, &text, &report) == JP_USAGE
                && text.length == 0,
            "no form", "3");
     expect(ask(&query, "{\"a\":[7,8]}", JP_NO_LIMIT, &text, &report) == JP_DONE && is_text(&text, "7\n8\n"),
            "an answer again", "");
-    expect(jp_ask_document(&query, &none, JP_VALUES, JP_ALL, JP_NO_LIMIT, &text, &report) == JP_USAGE
+    expect(jp_ask_document(&query, &none, JP_VALUES, 0, JP_ALL, JP_NO_LIMIT, &text, &report) == JP_USAGE
                && text.length == 0,
            "no document", "");
     jp_clear(&query);
     expect(ask(&query, "[]", JP_NO_LIMIT, &text, &report) == JP_USAGE && text.length == 0, "cleared", "");
 }
 
-int main(void) {
+static void keep_document(const char *document, struct jp_handle *handle) {
+    struct jp_report report;
+    uint8_t room[1];
+    uint32_t status = jp_document_new((const uint8_t *)document, strlen(document), handle, room, 0, &report);
+    expect(status == JP_DONE, "a document kept", "");
+}
+
+/* The first node, and whether there is one. */
+static void try_first(void) {
+    static const struct {
+        const char *query, *path, *value;
+    } firsts[] = {
+        {"$.a[0]", "$['a'][0]", "7"},
+        {"$..b", "$['a'][1]['b']", "\"xy\""},
+        {"$", "$", "{\"a\":[7,{\"b\":\"xy\",\"c\":[]},8],\"d\":{\"b\":-1}}"},
+        {"$.a[5]", "", ""},
+        {"$..x", "", ""},
+    };
+    const uint8_t *document = (const uint8_t *)DOCUMENT;
+    struct jp_handle query = JP_EMPTY;
+    struct jp_report report;
+    struct jp_node node;
+    uint32_t exists;
+    for (size_t at = 0; at < sizeof firsts / sizeof firsts[0]; at += 1) {
+        keep_query(firsts[at].query, &query);
+        const size_t length = strlen(firsts[at].path) + strlen(firsts[at].value);
+        expect(jp_first(&query, document, strlen(DOCUMENT), JP_NO_LIMIT, &node, &report) == JP_DONE
+                   && report.length == length && is_text(&node.path, firsts[at].path)
+                   && is_text(&node.value, firsts[at].value),
+               "the first node", firsts[at].query);
+        expect(jp_exists(&query, document, strlen(DOCUMENT), JP_NO_LIMIT, &exists, &report) == JP_DONE
+                   && exists == (length > 0) && report.length == 0,
+               "whether there is a node", firsts[at].query);
+    }
+    expect(jp_first(&query, (const uint8_t *)"[2.5]", 5, JP_NO_LIMIT, &node, &report) == JP_DOCUMENT_REFUSED
+               && is_text(&node.path, "$[0]") && report.length == 4 && node.value.length == 0,
+           "no first node of what is refused", "");
+    expect(jp_exists(&query, document, strlen(DOCUMENT), 1, &exists, &report) == JP_STEPS_USED_UP && exists == 0,
+           "a limit of one step", "");
+    jp_clear(&query);
+    expect(jp_exists(&query, document, 1, JP_NO_LIMIT, &exists, &report) == JP_USAGE && exists == 0, "no query", "");
+}
+
+/* One node after another, as they stand in the nodelist; none after the last, however often it is asked. */
+static void try_cursor(void) {
+    static const char *const nodes[][2] = {
+        {"$['a']", "[7,{\"b\":\"xy\",\"c\":[]},8]"},
+        {"$['d']", "{\"b\":-1}"},
+        {"$['a'][0]", "7"},
+        {"$['a'][1]", "{\"b\":\"xy\",\"c\":[]}"},
+        {"$['a'][2]", "8"},
+        {"$['a'][1]['b']", "\"xy\""},
+        {"$['a'][1]['c']", "[]"},
+        {"$['d']['b']", "-1"},
+        {"", ""},
+        {"", ""},
+    };
+    struct jp_handle query = JP_EMPTY, document = JP_EMPTY;
+    struct jp_cursor cursor = JP_START;
+    struct jp_report report;
+    struct jp_node node;
+    keep_query("$..*", &query);
+    keep_document(DOCUMENT, &document);
+    for (size_t at = 0; at < sizeof nodes / sizeof nodes[0]; at += 1) {
+        expect(jp_next(&cursor, &query, &document, JP_NO_LIMIT, &node, &report) == JP_DONE
+                   && is_text(&node.path, nodes[at][0]) && is_text(&node.value, nodes[at][1])
+                   && report.length == node.path.length + node.value.length,
+               "the next node", nodes[at][0]);
+    }
+    expect(cursor.given == 8, "eight nodes", "$..*");
+    jp_clear(&query);
+    expect(jp_next(&cursor, &query, &document, JP_NO_LIMIT, &node, &report) == JP_DONE && node.path.length == 0,
+           "nothing is asked behind the last", "");
+    cursor = (struct jp_cursor)JP_START;
+    expect(jp_next(&cursor, &query, &document, JP_NO_LIMIT, &node, &report) == JP_USAGE && node.path.length == 0,
+           "no query", "");
+    jp_clear(&document);
+}
+
+/* The steps of a path, with names that are spelled by escapes. */
+static void try_steps(void) {
+    static const char document[] = "{\"a'b\\\\c\\u0007\\n]['\":[0,{\"\":{\"\u00e9\":7}}]}";
+    static const char *const names[] = {"a'b\\c\a\n]['", NULL, "", "\u00e9"};
+    struct jp_handle query = JP_EMPTY;
+    struct jp_report report;
+    struct jp_node node;
+    struct jp_step step;
+    uint8_t name[64];
+    size_t at = 0;
+    keep_query("$..[?@==7]", &query);
+    jp_first(&query, (const uint8_t *)document, strlen(document), JP_NO_LIMIT, &node, &report);
+    expect(is_text(&node.path, "$['a\\'b\\\\c\\u0007\\n][\\''][1]['']['\u00e9']"), "a path with escapes", "");
+    for (size_t step_at = 0; step_at < 4; step_at += 1) {
+        expect(jp_next_step(&node.path, &at, &step) == 1, "a step", "");
+        if (names[step_at] == NULL) {
+            expect(step.name.start == NULL && step.index == 1, "an index", "");
+            continue;
+        }
+        const struct jp_text written = {name, jp_name(&step.name, name)};
+        expect(step.name.start != NULL && is_text(&written, names[step_at]), "a name", names[step_at]);
+    }
+    expect(jp_next_step(&node.path, &at, &step) == 0 && jp_next_step(&node.path, &at, &step) == 0, "no step more", "");
+    const struct jp_text root = {(const uint8_t *)"$", 1}, last = {(const uint8_t *)"$[9007199254740990]", 19};
+    at = 0;
+    expect(jp_next_step(&root, &at, &step) == 0, "no step of the root", "");
+    expect(jp_next_step(&last, &at, &step) == 1 && step.index == 9007199254740990, "the largest index", "");
+    jp_clear(&query);
+}
+
+/* Goes through all nodes of a list of so many numbers. Gives how many steps the first took, and all. */
+static void go_through(struct jp_handle *query, struct jp_handle *document, uint64_t count, uint64_t steps[2]) {
+    struct jp_cursor cursor = JP_START;
+    struct jp_report report;
+    struct jp_node node;
+    char expected[24];
+    steps[1] = 0;
+    for (uint64_t at = 0; at <= count; at += 1) {
+        expect(jp_next(&cursor, query, document, JP_NO_LIMIT, &node, &report) == JP_DONE, "a node of many", "");
+        snprintf(expected, sizeof expected, "%llu", (unsigned long long)at);
+        expect(is_text(&node.value, at < count ? expected : ""), "the nodes in order", expected);
+        steps[0] = at == 0 ? report.steps : steps[0];
+        steps[1] += report.steps;
+    }
+}
+
+/* The first of many nodes takes next to nothing of what all take, and all take three walks at most. The third
+ * time that it is done no memory is asked for. */
+static void try_many(void) {
+    static const uint64_t counts[] = {1, 2, 3, 1023, 1024, 20000};
+    struct jp_handle query = JP_EMPTY, document = JP_EMPTY;
+    struct jp_report report;
+    struct jp_text text;
+    char *list = malloc(1 << 18);
+    keep_query("$[*]", &query);
+    for (size_t row = 0; row < sizeof counts / sizeof counts[0]; row += 1) {
+        char *end = list;
+        for (uint64_t at = 0; at < counts[row]; at += 1) {
+            end += sprintf(end, "%c%llu", at == 0 ? '[' : ',', (unsigned long long)at);
+        }
+        strcpy(end, "]");
+        keep_document(list, &document);
+        jp_ask_document(&query, &document, JP_BOTH, 0, JP_ALL, JP_NO_LIMIT, &text, &report);
+        const uint64_t once = report.steps;
+        uint64_t steps[2];
+        size_t before = 0;
+        for (int time = 0; time < 3; time += 1) {
+            before = requests;
+            go_through(&query, &document, counts[row], steps);
+        }
+        expect(requests == before, "no request for memory of a cursor", "");
+        expect(steps[0] < 12 && steps[1] <= 3 * once + 64, "few steps for one node, and three walks for all", "");
+        /* Each page has the whole limit, and one that needs more is asked for again. */
+        struct jp_cursor cursor = JP_START;
+        struct jp_node node;
+        expect(jp_next(&cursor, &query, &document, 1, &node, &report) == JP_STEPS_USED_UP && node.path.length == 0
+                   && jp_next(&cursor, &query, &document, steps[0], &node, &report) == JP_DONE
+                   && is_text(&node.path, "$[0]"),
+               "a limit of a page", "");
+    }
+    free(list);
+    jp_clear(&query);
+    jp_clear(&document);
+}
+
+/* So many calls with one query and one document that is kept ask for memory in the first of them only. */
+static void try_long(long calls) {
+    static const char *const documents[] = {DOCUMENT, "{\"a\":[]}", "{\"a\":[[1,[2]],3]}"};
+    struct jp_handle walks = JP_EMPTY, named = JP_EMPTY, document = JP_EMPTY;
+    struct jp_cursor cursor = JP_START;
+    struct jp_report report;
+    struct jp_text text;
+    struct jp_node node;
+    size_t before = 0;
+    keep_query("$.a[*]", &walks);
+    keep_query("$.a[0]", &named);
+    keep_document(DOCUMENT, &document);
+    for (long call = 0; call < calls; call += 4) {
+        before = call == 64 ? requests : before;
+        const char *bytes = documents[call / 4 % 3];
+        ask(&walks, bytes, JP_NO_LIMIT, &text, &report);
+        ask(&named, bytes, JP_NO_LIMIT, &text, &report);
+        jp_ask_document(&named, &document, JP_BOTH, 0, 1, JP_NO_LIMIT, &text, &report);
+        if (jp_next(&cursor, &walks, &document, JP_NO_LIMIT, &node, &report) == JP_DONE) {
+            cursor = (struct jp_cursor)JP_START;
+        }
+    }
+    expect(requests == before, "no request for memory in many calls", "");
+    jp_clear(&walks);
+    jp_clear(&named);
+    jp_clear(&document);
+}
+
+int main(int count, char **words) {
     for (size_t at = 0; at < sizeof rows / sizeof rows[0]; at += 1) {
         try_row(at);
     }
     try_changing();
     try_refused();
+    try_first();
+    try_cursor();
+    try_steps();
+    try_many();
+    try_long(count > 1 ? atol(words[1]) : 1000000);
     return failures == 0 ? 0 : 1;
 }

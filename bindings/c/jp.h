@@ -11,7 +11,9 @@
  *   document may be read, and the buffer and the reports written, by no one else meanwhile. The
  *   buffer and the reports overlap nothing, and each is aligned as its type is.
  * - `malloc`, `realloc` and `free` of the program are of one allocator and align to 16 bytes.
- * - No call from a signal handler, nor from the forked child of a process that has threads.
+ * - No call from a signal handler. In the forked child of a process that has threads, calls are made only where
+ *   `malloc` may be called there, as it may with the GNU C library, and with no handle that a thread's call had
+ *   in use at the fork.
  * - JP_STACK bytes of stack on a stack that is not the thread's own, as that of a coroutine. The limit of
  *   the main thread's stack is not lowered after its first call.
  *
@@ -234,19 +236,73 @@ struct jp_text {
 #define JP_ALL 0
 
 /* Asks the query that the handle keeps of a document. The text, which the handle lends, is what jp_eval
- * writes: of all nodes, or of as many as `count` says, from the first on, with which the evaluation stops. So
- * a count of 1 asks for the first node, and whether there is one: without one there is no text. Where a
+ * writes: of the nodes behind the first `from` ones all, or as many as `count` says, with which the evaluation
+ * stops. So 0 and 1 ask for the first node, and whether there is one: without one there is no text. Where a
  * document is refused for a number that is not whole, its path is lent. The handle keeps the memory that a
  * call takes, so that the next takes none where it needs no more. */
 uint32_t jp_ask(struct jp_handle *query, const uint8_t *document, size_t document_length,
-                uint32_t form, uint64_t count, uint64_t limit,
+                uint32_t form, uint64_t from, uint64_t count, uint64_t limit,
                 struct jp_text *text, struct jp_report *report);
 
 /* The same of the document that another handle keeps. Both keep what they keep; the text is lent by the
  * query's. */
 uint32_t jp_ask_document(struct jp_handle *query, struct jp_handle *document,
-                         uint32_t form, uint64_t count, uint64_t limit,
+                         uint32_t form, uint64_t from, uint64_t count, uint64_t limit,
                          struct jp_text *text, struct jp_report *report);
+
+/* A node, in texts that a query's handle lends: its normalized path and the compact text of its value. Where
+ * there is none both lengths are 0, which they are of no node. */
+struct jp_node {
+    struct jp_text path;
+    struct jp_text value;
+};
+
+/* Asks the query that the handle keeps for its first node in a document, with which the evaluation stops.
+ * `report->length` is that of both texts together. Where a document is refused for a number that is not
+ * whole, its path is lent. */
+uint32_t jp_first(struct jp_handle *query, const uint8_t *document, size_t document_length, uint64_t limit,
+                  struct jp_node *node, struct jp_report *report);
+
+/* The same, where no more is asked than whether there is a node: `exists` is 1, or else 0. */
+uint32_t jp_exists(struct jp_handle *query, const uint8_t *document, size_t document_length, uint64_t limit,
+                   uint32_t *exists, struct jp_report *report);
+
+/* Where someone stands among the nodes that a query selects in a document. It is JP_START before its first
+ * call, and is forgotten at any time: it has no memory of its own. */
+struct jp_cursor {
+    uint64_t given;       /* how many nodes were given */
+    uint64_t asked;       /* how many were asked for, up to the end of the page */
+    struct jp_text lines; /* what is left of the page */
+};
+
+/* clang-format off */
+#define JP_START {0, 0, {0, 0}}
+/* clang-format on */
+
+/* The next of the nodes that the query of one handle selects in the document of the other, in the nodelist's
+ * order; none after the last. While a cursor is in use no other call uses its query's handle, and the
+ * document's keeps what it keeps.
+ *
+ * A cursor asks jp_ask_document for pages of 1, 2, 4 nodes and so on, the last of which may have half of all.
+ * So the first node costs no more than a count of 1, and all of them at most three times what they cost at
+ * once. A call that asks for a page has the whole limit and reports that page's steps; others make none.
+ * Where the status is not JP_DONE the cursor stands where it stood, and may be asked again. */
+uint32_t jp_next(struct jp_cursor *cursor, struct jp_handle *query, struct jp_handle *document, uint64_t limit,
+                 struct jp_node *node, struct jp_report *report);
+
+/* A step of a normalized path: a name, or, where `name.start` is null, an index. */
+struct jp_step {
+    struct jp_text name; /* as the path spells it, between its quotation marks */
+    uint64_t index;
+};
+
+/* The next step of a normalized path, as calls give it. `at` is 0 before the first, and then where the next
+ * one stands. Gives 1, or 0 where there is no more. */
+uint32_t jp_next_step(const struct jp_text *path, size_t *at, struct jp_step *step);
+
+/* Writes the name that a path spells so, and gives its length, which is no more than the spelling's. The buffer
+ * has room for that. */
+size_t jp_name(const struct jp_text *name, uint8_t *out);
 
 /* Frees what the handle keeps, if anything. It then keeps nothing, and may be filled or cleared again.
  * Where the thread's stack has too little left for it, nothing is done, and `full` is not 0 still. */

@@ -108,16 +108,37 @@ static void take(struct asked *it, const struct jp_text *text) {
 
 static void ask_kept(struct asked *it) {
     struct jp_text text;
-    it->status = jp_ask(&it->kept_query, it->document.at, it->document.length, JP_BOTH, JP_ALL, JP_NO_LIMIT, &text,
+    it->status = jp_ask(&it->kept_query, it->document.at, it->document.length, JP_BOTH, 0, JP_ALL, JP_NO_LIMIT, &text,
                         &it->report);
     take(it, &text);
 }
 
 static void ask_document(struct asked *it) {
     struct jp_text text;
-    it->status = jp_ask_document(&it->kept_query, &it->kept_document, JP_BOTH, JP_ALL, JP_NO_LIMIT, &text,
+    it->status = jp_ask_document(&it->kept_query, &it->kept_document, JP_BOTH, 0, JP_ALL, JP_NO_LIMIT, &text,
                                  &it->report);
     take(it, &text);
+}
+
+/* The first nodes, until there is none or a call is refused. */
+static void next_nodes(struct asked *it) {
+    struct jp_cursor cursor = JP_START;
+    struct jp_node node;
+    do {
+        it->status = jp_next(&cursor, &it->kept_query, &it->kept_document, JP_NO_LIMIT, &node, &it->report);
+        take(it, &node.path);
+    } while (node.path.length > 0 && cursor.given < 5);
+}
+
+static void first(struct asked *it) {
+    struct jp_node node;
+    it->status = jp_first(&it->kept_query, it->document.at, it->document.length, JP_NO_LIMIT, &node, &it->report);
+    take(it, &node.path);
+}
+
+static void exists(struct asked *it) {
+    uint32_t exists;
+    it->status = jp_exists(&it->kept_query, it->document.at, it->document.length, JP_NO_LIMIT, &exists, &it->report);
 }
 
 /* The three after one another, so that one thread has both handles. */
@@ -160,6 +181,9 @@ static const struct {
     {"jp_select of what was counted", select_kept, 672 * KIB},
     {"jp_ask", ask_kept, HERE},
     {"jp_ask_document", ask_document, HERE},
+    {"jp_first", first, HERE},
+    {"jp_exists", exists, HERE},
+    {"jp_next", next_nodes, HERE},
     {"the calls with handles", keep_and_select, HERE},
     {"jp_clear", clear, HERE},
     {"jp_kind_name", kind_name, HERE},

@@ -1,6 +1,7 @@
-/* Refuses the library each request for memory in turn, while it reads documents that it refuses: a call tells
- * what it tells with ample memory, or JP_NO_MEMORY without a kind, a place or a text. It is linked with
- * --wrap=malloc,--wrap=realloc, and prints how many requests it refused. */
+/* Refuses the library each request for memory in turn, while it reads documents that it refuses, or goes through
+ * nodes: a call tells what it tells with ample memory, or JP_NO_MEMORY without a kind, a place or a text, and then
+ * what it tells with ample memory when it is made again. It is linked with --wrap=malloc,--wrap=realloc, and prints
+ * how many requests it refused. */
 #include "jp.h"
 
 #include <stdio.h>
@@ -34,6 +35,39 @@ struct told {
     struct jp_place place;
 };
 
+/* The first nodes of a document that is kept, by a query that is: each call that is refused memory is made again.
+ * Where the document is refused the first report tells why. */
+static void go_through(const uint8_t *bytes, size_t length, struct jp_report *reports) {
+    struct jp_handle query = JP_EMPTY, document = JP_EMPTY;
+    struct jp_cursor cursor = JP_START;
+    struct jp_node node;
+    uint8_t out[128];
+    while (jp_query_new((const uint8_t *)"$..*", 4, JP_STANDARD, &query, &reports[0]) == JP_NO_MEMORY) {
+    }
+    while (jp_document_new(bytes, length, &document, out, sizeof out, &reports[0]) == JP_NO_MEMORY) {
+    }
+    for (int at = 0; document.full && at < 3; at += 1) {
+        while (jp_next(&cursor, &query, &document, JP_NO_LIMIT, &node, &reports[at]) == JP_NO_MEMORY) {
+        }
+    }
+    jp_clear(&query);
+    jp_clear(&document);
+}
+
+/* The first node and whether there is one, by a query that is kept. */
+static void ask_first(const uint8_t *bytes, size_t length, struct jp_report *reports) {
+    struct jp_handle query = JP_EMPTY;
+    struct jp_node node;
+    uint32_t exists;
+    if (jp_query_new((const uint8_t *)"$..*", 4, JP_STANDARD, &query, &reports[2]) == JP_DONE) {
+        jp_first(&query, bytes, length, JP_NO_LIMIT, &node, &reports[0]);
+        jp_exists(&query, bytes, length, JP_NO_LIMIT, &exists, &reports[1]);
+        jp_clear(&query);
+    } else {
+        reports[0] = reports[1] = reports[2];
+    }
+}
+
 /* Makes the call of this number over a document. */
 static void make_call(int call, const char *document, struct told *told) {
     const uint8_t *bytes = (const uint8_t *)document, *queries = (const uint8_t *)"$.a$..b";
@@ -55,6 +89,12 @@ static void make_call(int call, const char *document, struct told *told) {
     case 2:
         jp_document_new(bytes, length, &handle, out, sizeof out, report);
         jp_clear(&handle);
+        break;
+    case 3:
+        ask_first(bytes, length, report);
+        break;
+    case 4:
+        go_through(bytes, length, report);
         break;
     default:
         jp_explain_document(bytes, length, JP_DOCUMENT_LINE, &told->place, out, sizeof out, report);
@@ -108,11 +148,12 @@ int main(void) {
         "[\xff]",
         "{\"a\":[1e400]}",
         "{\"a\":1}",
+        "{\"a\":[1,{\"b\":[]},\"x\"]}",
     };
     int failures = 0;
     size_t count = 0;
     for (size_t at = 0; at < sizeof documents / sizeof documents[0]; at += 1) {
-        for (int call = 0; call < 4; call += 1) {
+        for (int call = 0; call < 6; call += 1) {
             count += refuse_each(call, documents[at], &failures);
         }
     }

@@ -321,28 +321,28 @@ uint32_t jp_select(struct jp_handle *query, struct jp_handle *document, uint32_t
 
 PROVED(ask);
 uint32_t jp_ask(struct jp_handle *query, const uint8_t *document, size_t document_length,
-                uint32_t form, uint64_t count, uint64_t limit,
+                uint32_t form, uint64_t from, uint64_t count, uint64_t limit,
                 struct jp_text *text, struct jp_report *report) {
     const struct depth of_query = depth_in(query);
     if (IS_SHORT(DOCUMENT, deeper(of_query, depth_of_document(document, document_length)))) {
         text->length = 0;
         return no_stack(report);
     }
-    const uint32_t status = proved_jp_ask(query, document, document_length, form, count, limit, text, report);
+    const uint32_t status = proved_jp_ask(query, document, document_length, form, from, count, limit, text, report);
     note_depth(query, of_query);
     return status;
 }
 
 PROVED(ask_document);
 uint32_t jp_ask_document(struct jp_handle *query, struct jp_handle *document,
-                         uint32_t form, uint64_t count, uint64_t limit,
+                         uint32_t form, uint64_t from, uint64_t count, uint64_t limit,
                          struct jp_text *text, struct jp_report *report) {
     const struct depth of_query = depth_in(query), of_document = depth_in(document);
     if (IS_SHORT(QUERY, deeper(of_query, of_document))) {
         text->length = 0;
         return no_stack(report);
     }
-    const uint32_t status = proved_jp_ask_document(query, document, form, count, limit, text, report);
+    const uint32_t status = proved_jp_ask_document(query, document, form, from, count, limit, text, report);
     note_depth(query, of_query);
     note_depth(document, of_document);
     return status;

@@ -40,22 +40,23 @@ first-few zero l o = refl
 first-few (suc k) l o = few-if (suc k == 0) k l o
 
 -- the line of the node at the location that the query names is the answer
-pub named_answer : (form : Form) (count : ℕ) (q : QueryTree) (bytes after : List ℕ)
-    → Fits bytes → AnswersNamed form q bytes [] after
-    → (d : Value) × IsDocument bytes d × Fits bytes × (after ≡ answer_of count form q d)
-named_answer form count q bytes after fits x = (
+pub named_answer : (form : Form) (from count : ℕ) (q : QueryTree) (bytes after : List ℕ)
+    → from ≡ 0 → Fits bytes → AnswersNamed form q bytes [] after
+    → (d : Value) × IsDocument bytes d × Fits bytes × (after ≡ answer_of from count form q d)
+named_answer form from count q bytes after none fits x = (
   x.d,
   x.document,
   fits,
   x.lines
       ∙ ap (lines_of form) (sym (ap (first_nodes (most_of count)) (x.names x.d)
-      ∙ first-few count x.l (value_at x.d x.l))),
+      ∙ first-few count x.l (value_at x.d x.l)))
+      ∙ ap (λ n. answer_of n count form q x.d) (sym none),
 )
 
-module _ (limit form count : ℕ) (query : Option Kept) (f : Form) (q : QueryTree) (bytes : List ℕ)
+module _ (limit form from count : ℕ) (query : Option Kept) (f : Form) (q : QueryTree) (bytes : List ℕ)
     (is : IsAskedOf form query f q) (steps : ℕ) where
   abbrev IsAllowed : outcome.Outcome → Type 0
-  IsAllowed o = Within limit (IsAskOutcome form count query bytes) o steps
+  IsAllowed o = Within limit (IsAskOutcome form from count query bytes) o steps
 
   told_fault : (fault : FindFault) (p : outcome.Outcome) → IsNoAnswerOf bytes fault
       → MakesSteps limit (Fault fault) steps → IsTold bytes fault p → IsAllowed p
@@ -73,7 +74,7 @@ module _ (limit form count : ℕ) (query : Option Kept) (f : Form) (q : QueryTre
       (o p : outcome.Outcome) (made : ℕ)
       → MatchResult answer (λ _. o ≡ Text text) (λ fault. o ≡ Fault fault)
       → OnOk answer ((d : Value) × IsDocument bytes d × Fits bytes
-      × (string_bytes text ≡ answer_of count f q d))
+      × (string_bytes text ≡ answer_of from count f q d))
       → IfErr answer (IsNoAnswerOf bytes) → MakesSteps limit o made → steps ≡ made
       → IsPlaced bytes o p → IsAllowed p
   told_of_bytes text (Ok u) o p made same here none makes counts placed =
@@ -88,33 +89,33 @@ module _ (limit form count : ℕ) (query : Option Kept) (f : Form) (q : QueryTre
       (subst (λ x. MakesSteps limit x made) same makes))
       (subst (λ x. IsPlaced bytes x p) same placed)
 
-pub told_of_value : (form count : ℕ) (query : Option Kept) (f : Form) (q : QueryTree)
+pub told_of_value : (form from count : ℕ) (query : Option Kept) (f : Form) (q : QueryTree)
     (text : String Global) (answer : Result (Unit {0}) FindFault) (o : outcome.Outcome) (d : Value)
     → IsAskedOf form query f q
     → MatchResult answer (λ _. o ≡ Text text) (λ fault. o ≡ Fault fault)
-    → OnOk answer (string_bytes text ≡ answer_of count f q d)
+    → OnOk answer (string_bytes text ≡ answer_of from count f q d)
     → IfErr answer (λ fault. (fault ≡ NoMemory) ⊎ (fault ≡ StepsUsedUp))
-    → IsValueOutcome form count query d o
-told_of_value form count query f q text (Ok u) o d is same here none =
-    subst (IsValueOutcome form count query d) (sym same) (f, q, is, here)
-told_of_value form count query f q text (Err fault) o d is same here none =
-    subst (IsValueOutcome form count query d) (sym same) (f, q, is, none)
+    → IsValueOutcome form from count query d o
+told_of_value form from count query f q text (Ok u) o d is same here none =
+    subst (IsValueOutcome form from count query d) (sym same) (f, q, is, here)
+told_of_value form from count query f q text (Err fault) o d is same here none =
+    subst (IsValueOutcome form from count query d) (sym same) (f, q, is, none)
 
 -- what is asked of a document is asked of what keeps it
-pub asked_of_document : (form count : ℕ) (query document : Option Kept) (d : Value)
-    (o : outcome.Outcome) → document_kept document ≡ Some d → IsValueOutcome form count query d o
-    → IsAskDocumentOutcome form count query document o
-asked_of_document form count query document d (Text text) there is = (
+pub asked_of_document : (form from count : ℕ) (query document : Option Kept) (d : Value)
+    (o : outcome.Outcome) → document_kept document ≡ Some d → IsValueOutcome form from count query d o
+    → IsAskDocumentOutcome form from count query document o
+asked_of_document form from count query document d (Text text) there is = (
   is.0,
   is.1,
   d,
   record { form_is = is.2.form_is; query_is = is.2.query_is; document_is = there },
   is.3,
 )
-asked_of_document form count query document d Usage there (inl none) = inl none
-asked_of_document form count query document d Usage there (inr none) = inr (inl none)
-asked_of_document form count query document d (Misread fault place) there is = absurd is
-asked_of_document form count query document d (Fault fault) there is = (
+asked_of_document form from count query document d Usage there (inl none) = inl none
+asked_of_document form from count query document d Usage there (inr none) = inr (inl none)
+asked_of_document form from count query document d (Misread fault place) there is = absurd is
+asked_of_document form from count query document d (Fault fault) there is = (
   is.0,
   is.1,
   d,

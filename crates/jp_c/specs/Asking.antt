@@ -5,7 +5,7 @@ use Rattle.std.specs.String.{string_vec}
 use Rattle.std.specs.Vec.{vec_ptr}
 use Rattle.std.specs.declared.alloc.Global.{Global}
 use Rattle.jp_command.specs.Lines.{lines_of}
-use Rattle.jp_command.specs.Selecting.{first_nodes}
+use Rattle.jp_command.specs.Selecting.{nodes_behind}
 use Rattle.jp_command.specs.declared.lines.Form.{Form}
 use Rattle.jp_document.specs.Document.{IsDocument}
 use Rattle.jp_document.specs.Value.{Value}
@@ -31,9 +31,10 @@ use Rattle.jp_c.specs.declared.outcome.Report.{Report}
 abbrev pub most_of : ℕ → Option ℕ
 most_of count = if count == 0 then None else Some count
 
--- the lines, in that form, of the first nodes that the query selects in the document
-abbrev pub answer_of : ℕ → Form → QueryTree → Value → List ℕ
-answer_of count f q d = lines_of f (first_nodes (most_of count) (nodelist q d))
+-- the lines, in that form, of the nodes that the query selects in the document behind the first `from` ones: of
+-- so many of them
+abbrev pub answer_of : ℕ → ℕ → Form → QueryTree → Value → List ℕ
+answer_of from count f q d = lines_of f (nodes_behind from (most_of count) (nodelist q d))
 
 -- a form has that number, and the handle keeps a query
 pub record IsAskedOf (form : ℕ) (query : Option Kept) (f : Form) (q : QueryTree) : Type 0 where
@@ -46,32 +47,32 @@ abbrev pub IsNoAnswerOf : List ℕ → FindFault → Type 0
 IsNoAnswerOf bytes find.StepsUsedUp = ((d : Value) × IsDocument bytes d) × Fits bytes
 IsNoAnswerOf bytes fault = IsNoDocument bytes fault
 
--- of `jp_ask`: the lines of the first nodes that the query kept by the handle selects in the document that
+-- of `jp_ask`: the lines of the nodes asked for that the query kept by the handle selects in the document that
 -- the bytes are; or no form has that number, or the handle keeps no query; or why there is no answer, with the
 -- place of a document that is refused
-abbrev pub IsAskOutcome : ℕ → ℕ → Option Kept → List ℕ → outcome.Outcome → Type 0
-IsAskOutcome form count query bytes (Text text) =
+abbrev pub IsAskOutcome : ℕ → ℕ → ℕ → Option Kept → List ℕ → outcome.Outcome → Type 0
+IsAskOutcome form from count query bytes (Text text) =
     (f : Form) × (q : QueryTree) × (d : Value) × IsAskedOf form query f q × IsDocument bytes d
-    × Fits bytes × (string_bytes text ≡ answer_of count f q d)
-IsAskOutcome form count query bytes Usage = (form_of form ≡ None) ⊎ (query_kept query ≡ None)
-IsAskOutcome form count query bytes (Fault fault) =
+    × Fits bytes × (string_bytes text ≡ answer_of from count f q d)
+IsAskOutcome form from count query bytes Usage = (form_of form ≡ None) ⊎ (query_kept query ≡ None)
+IsAskOutcome form from count query bytes (Fault fault) =
     (f : Form) × (q : QueryTree) × IsAskedOf form query f q × IsNoAnswerOf bytes fault
     × IsPlaceless fault
-IsAskOutcome form count query bytes (Misread fault place) =
+IsAskOutcome form from count query bytes (Misread fault place) =
     (f : Form) × (q : QueryTree) × IsAskedOf form query f q × IsNoDocument bytes (find.Document fault)
     × IsMisreadAt bytes place
 
 -- of `jp_ask_document`: the same of the document that another handle keeps
-abbrev pub IsAskDocumentOutcome : ℕ → ℕ → Option Kept → Option Kept → outcome.Outcome → Type 0
-IsAskDocumentOutcome form count query document (Text text) =
+abbrev pub IsAskDocumentOutcome : ℕ → ℕ → ℕ → Option Kept → Option Kept → outcome.Outcome → Type 0
+IsAskDocumentOutcome form from count query document (Text text) =
     (f : Form) × (q : QueryTree) × (d : Value) × IsSelected form query document f q d
-    × (string_bytes text ≡ answer_of count f q d)
-IsAskDocumentOutcome form count query document Usage =
+    × (string_bytes text ≡ answer_of from count f q d)
+IsAskDocumentOutcome form from count query document Usage =
     (form_of form ≡ None) ⊎ (query_kept query ≡ None) ⊎ (document_kept document ≡ None)
-IsAskDocumentOutcome form count query document (Fault fault) =
+IsAskDocumentOutcome form from count query document (Fault fault) =
     (f : Form) × (q : QueryTree) × (d : Value) × IsSelected form query document f q d
     × ((fault ≡ find.NoMemory) ⊎ (fault ≡ find.StepsUsedUp))
-IsAskDocumentOutcome form count query document (Misread fault place) = ⊥
+IsAskDocumentOutcome form from count query document (Misread fault place) = ⊥
 
 -- the text that is kept with a query, as the answer of the last call
 abbrev pub text_kept : Option Kept → Option (String Global)

@@ -59,6 +59,7 @@ impl Asker {
         &mut self,
         alloc: Global,
         form: Form,
+        from: u64,
         count: u64,
         document: &[u8],
         steps: &mut Steps,
@@ -66,17 +67,17 @@ impl Asker {
         ensures query { self.new.query ≡ self.old.query }
         ensures answer { OnOk result ((d : Value) × IsDocument document.now d × Fits document.now
             × (string_bytes self.new.memory.text
-            ≡ answer_of count form (query_of self.old.query.query) d)) }
+            ≡ answer_of from count form (query_of self.old.query.query) d)) }
         ensures fault { IfErr result (IsNoAnswerOf document.now) }
         ensures spends { Spends result steps.old steps.new }
     {
         let Asker { query, memory } = self;
         memory.text.clear();
         check_size(document)?;
-        if ask_named(alloc, form, query, document, memory)? {
+        if from == 0 && ask_named(alloc, form, query, document, memory)? {
             return Ok(());
         }
-        ask_whole(alloc, form, count, query, document, memory, steps)
+        ask_whole(alloc, form, from, count, query, document, memory, steps)
     }
 
     /// The same of a document that was read.
@@ -84,19 +85,20 @@ impl Asker {
         &mut self,
         alloc: Global,
         form: Form,
+        from: u64,
         count: u64,
         root: FlatValue<'_, '_>,
         steps: &mut Steps,
     ) -> Result<(), FindFault>
         ensures query { self.new.query ≡ self.old.query }
         ensures answer { OnOk result (string_bytes self.new.memory.text
-            ≡ answer_of count form (query_of self.old.query.query) (lent_flat root.entry)) }
+            ≡ answer_of from count form (query_of self.old.query.query) (lent_flat root.entry)) }
         ensures fault { IfErr result (λ fault. (fault ≡ find.NoMemory) ⊎ (fault ≡ find.StepsUsedUp)) }
         ensures spends { Spends result steps.old steps.new }
     {
         let Asker { query, memory } = self;
         memory.text.clear();
-        walk(alloc, form, count, query, root, memory, steps)
+        walk(alloc, form, from, count, query, root, memory, steps)
     }
 
     /// What is answered, which takes the memory's text, or the text where there is no answer.
@@ -201,6 +203,7 @@ fn ask_at(
 fn ask_whole(
     alloc: Global,
     form: Form,
+    from: u64,
     count: u64,
     query: &Checked,
     document: &[u8],
@@ -210,14 +213,14 @@ fn ask_whole(
     requires { Fits document.now }
     ensures answer { OnOk result ((d : Value) × IsDocument document.now d
         × (string_bytes memory.new.text ≡ string_bytes memory.old.text
-        ++ answer_of count form (query_of query.now.query) d)) }
+        ++ answer_of from count form (query_of query.now.query) d)) }
     ensures fault { IfErr result (IsNoAnswerOf document.now) }
     ensures spends { Spends result steps.old steps.new }
 {
     let room = memory.take_room(alloc);
     match read_into(alloc, room, document) {
         Ok(flat) => {
-            let asked = walk(alloc, form, count, query, flat.value(), memory, steps);
+            let asked = walk(alloc, form, from, count, query, flat.value(), memory, steps);
             memory.room = flat.into_room();
             asked
         }
@@ -232,6 +235,7 @@ fn ask_whole(
 fn walk(
     alloc: Global,
     form: Form,
+    from: u64,
     count: u64,
     query: &Checked,
     root: FlatValue<'_, '_>,
@@ -239,7 +243,7 @@ fn walk(
     steps: &mut Steps,
 ) -> Result<(), FindFault>
     ensures answer { OnOk result (string_bytes memory.new.text ≡ string_bytes memory.old.text
-        ++ answer_of count form (query_of query.now.query) (lent_flat root.entry)) }
+        ++ answer_of from count form (query_of query.now.query) (lent_flat root.entry)) }
     ensures fault { IfErr result (λ fault. (fault ≡ find.NoMemory) ⊎ (fault ≡ find.StepsUsedUp)) }
     ensures spends { Spends result steps.old steps.new }
 {
@@ -247,6 +251,7 @@ fn walk(
     let pushed = push_selected(
         alloc,
         form,
+        from,
         most(count),
         root,
         query,

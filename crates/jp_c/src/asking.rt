@@ -17,51 +17,60 @@ use crate::outcome::{Outcome, Report};
 use jp_flat::Flat;
 use std::alloc::Global;
 
-/// Asks the query that the handle keeps of a document, as `jp_eval` does: a line for each node, or for as
-/// many as `count` says, from the first on, where 0 is all. The text is lent from the handle until its next
-/// call. Where a call with the same query took enough memory before, this one takes none. Answers the
-/// report's status: 2 where the handle keeps no query, 6 where the evaluation needs more steps.
+/// Asks the query that the handle keeps of a document, as `jp_eval` does: a line for each node behind the
+/// first `from` ones, or for as many of these as `count` says, where 0 is all. The text is lent from the
+/// handle until its next call. Where a call with the same query took enough memory before, this one takes
+/// none. Answers the report's status: 2 where the handle keeps no query, 6 where the evaluation needs more
+/// steps.
 #[unsafe(no_mangle)]
 pub extern "C" fn jp_ask(
     alloc: Global,
     query: &mut Handle,
     document: &[u8],
     form: u32,
+    from: u64,
     count: u64,
     limit: u64,
     text: &mut Lent,
     report: &mut Report,
 ) -> u32
-    ensures answers { AnswersLent (Within limit (IsAskOutcome form count (kept_by query.old) document.now))
+    ensures answers { AnswersLent (Within limit (IsAskOutcome form from count (kept_by query.old) document.now))
         (kept_by query.new) text.new report.new result }
     ensures query { query_kept (kept_by query.new) ≡ query_kept (kept_by query.old) }
     ensures document { document_kept (kept_by query.new) ≡ document_kept (kept_by query.old) }
 {
     let mut kept = Handle::take(alloc, query);
-    let (lent, told) = asked(alloc, &mut kept, Given::Bytes(document), form, count, limit);
+    let wanted = Wanted {
+        form,
+        from,
+        count,
+        limit,
+    };
+    let (lent, told) = asked(alloc, &mut kept, Given::Bytes(document), wanted);
     *query = Handle::of_any(alloc, kept);
     *text = lent;
     *report = told;
     told.status
 }
 
-/// Asks the query that one handle keeps of the document that the other does: a line for each node, or for
-/// as many as `count` says, from the first on, where 0 is all. The text is lent from the query's handle until
-/// its next call; both handles keep what they keep. Answers the report's status: 2 where a handle keeps
-/// nothing or the other of the two, 6 where the evaluation needs more steps.
+/// Asks the query that one handle keeps of the document that the other does: a line for each node behind the
+/// first `from` ones, or for as many of these as `count` says, where 0 is all. The text is lent from the
+/// query's handle until its next call; both handles keep what they keep. Answers the report's status: 2 where
+/// a handle keeps nothing or the other of the two, 6 where the evaluation needs more steps.
 #[unsafe(no_mangle)]
 pub extern "C" fn jp_ask_document(
     alloc: Global,
     query: &mut Handle,
     document: &mut Handle,
     form: u32,
+    from: u64,
     count: u64,
     limit: u64,
     text: &mut Lent,
     report: &mut Report,
 ) -> u32
     ensures answers { AnswersLent
-        (Within limit (IsAskDocumentOutcome form count (kept_by query.old) (kept_by document.old)))
+        (Within limit (IsAskDocumentOutcome form from count (kept_by query.old) (kept_by document.old)))
         (kept_by query.new) text.new report.new result }
     ensures query { query_kept (kept_by query.new) ≡ query_kept (kept_by query.old) }
     ensures other { document_kept (kept_by query.new) ≡ document_kept (kept_by query.old) }
@@ -69,12 +78,27 @@ pub extern "C" fn jp_ask_document(
 {
     let mut kept = Handle::take(alloc, query);
     let other = Handle::take(alloc, document);
-    let (lent, told) = asked_of_other(alloc, &mut kept, &other, form, count, limit);
+    let wanted = Wanted {
+        form,
+        from,
+        count,
+        limit,
+    };
+    let (lent, told) = asked_of_other(alloc, &mut kept, &other, wanted);
     *query = Handle::of_any(alloc, kept);
     *document = Handle::of_any(alloc, other);
     *text = lent;
     *report = told;
     told.status
+}
+
+/// What is wanted: lines of the form of this number, for so many nodes behind the first ones, in so many steps.
+#[derive(Clone, Copy)]
+struct Wanted {
+    form: u32,
+    from: u64,
+    count: u64,
+    limit: u64,
 }
 
 /// What a query is asked of.
@@ -105,16 +129,14 @@ fn asked_of_other(
     alloc: Global,
     kept: &mut Option<Box<Kept, Global>>,
     other: &Option<Box<Kept, Global>>,
-    form: u32,
-    count: u64,
-    limit: u64,
+    wanted: Wanted,
 ) -> (Lent, Report)
-    ensures { Asks (λ k. Within limit
-        (IsAskDocumentOutcome form count k (option_map (λ b. b.value) other.now)))
+    ensures { Asks (λ k. Within wanted.limit
+        (IsAskDocumentOutcome wanted.form wanted.from wanted.count k (option_map (λ b. b.value) other.now)))
         (option_map (λ b. b.value) kept.old) (option_map (λ b. b.value) kept.new) result.0 result.1 }
 {
     match flat_of(other) {
-        Some(flat) => asked(alloc, kept, Given::Document(flat), form, count, limit),
+        Some(flat) => asked(alloc, kept, Given::Document(flat), wanted),
         None => usage(),
     }
 }
@@ -124,15 +146,14 @@ fn asked(
     alloc: Global,
     kept: &mut Option<Box<Kept, Global>>,
     given: Given<'_>,
-    form: u32,
-    count: u64,
-    limit: u64,
+    wanted: Wanted,
 ) -> (Lent, Report)
-    ensures { Asks (λ k. Within limit (IsAskedOutcome form count given.entry k))
+    ensures { Asks (λ k. Within wanted.limit
+        (IsAskedOutcome wanted.form wanted.from wanted.count given.entry k))
         (option_map (λ b. b.value) kept.old) (option_map (λ b. b.value) kept.new) result.0 result.1 }
 {
     match kept {
-        Some(kept) => asked_of_box(alloc, kept, given, form, count, limit),
+        Some(kept) => asked_of_box(alloc, kept, given, wanted),
         None => usage(),
     }
 }
@@ -142,44 +163,44 @@ fn asked_of_box(
     alloc: Global,
     kept: &mut Box<Kept, Global>,
     given: Given<'_>,
-    form: u32,
-    count: u64,
-    limit: u64,
+    wanted: Wanted,
 ) -> (Lent, Report)
-    ensures { Asks (λ k. Within limit (IsAskedOutcome form count given.entry k))
+    ensures { Asks (λ k. Within wanted.limit
+        (IsAskedOutcome wanted.form wanted.from wanted.count given.entry k))
         (Some kept.old.value) (Some kept.new.value) result.0 result.1 }
 {
-    asked_of(alloc, kept.as_mut(), given, form, count, limit)
+    asked_of(alloc, kept.as_mut(), given, wanted)
 }
 
 /// The same of what is in it.
-fn asked_of(
-    alloc: Global,
-    kept: &mut Kept,
-    given: Given<'_>,
-    form_number: u32,
-    count: u64,
-    limit: u64,
-) -> (Lent, Report)
-    ensures { Asks (λ k. Within limit (IsAskedOutcome form_number count given.entry k))
+fn asked_of(alloc: Global, kept: &mut Kept, given: Given<'_>, wanted: Wanted) -> (Lent, Report)
+    ensures { Asks (λ k. Within wanted.limit
+        (IsAskedOutcome wanted.form wanted.from wanted.count given.entry k))
         (Some kept.old) (Some kept.new) result.0 result.1 }
 {
-    let Some(form) = form(form_number) else {
+    let Some(form) = form(wanted.form) else {
         return usage();
     };
     let Kept::Query(asker) = kept else {
         return usage();
     };
-    let mut steps = steps_within(limit);
+    let mut steps = steps_within(wanted.limit);
     match given {
         Given::Bytes(document) => {
-            let answer = asker.ask(alloc, form, count, document, &mut steps);
-            let (answered, spare) = asker.answered(alloc, limit, steps, answer);
+            let answer = asker.ask(alloc, form, wanted.from, wanted.count, document, &mut steps);
+            let (answered, spare) = asker.answered(alloc, wanted.limit, steps, answer);
             asker.tell(answered.placed(alloc, document, None), spare)
         }
         Given::Document(flat) => {
-            let answer = asker.ask_value(alloc, form, count, flat.value(), &mut steps);
-            let (answered, spare) = asker.answered(alloc, limit, steps, answer);
+            let answer = asker.ask_value(
+                alloc,
+                form,
+                wanted.from,
+                wanted.count,
+                flat.value(),
+                &mut steps,
+            );
+            let (answered, spare) = asker.answered(alloc, wanted.limit, steps, answer);
             asker.tell(answered, spare)
         }
     }

@@ -37,22 +37,22 @@ pub record LendsText (a : Asker) (lent : Lent) : Type 0 where
   pub start : lent.start ≡ vec_ptr (string_vec a.memory.text)
   pub length : lent.length ≡ length (string_bytes a.memory.text)
 
--- of a document that was read: the lines of the first nodes that the query kept selects in it
-abbrev pub IsValueOutcome : ℕ → ℕ → Option Kept → Value → outcome.Outcome → Type 0
-IsValueOutcome form count query d (Text text) =
+-- of a document that was read: the lines of the nodes asked for that the query kept selects in it
+abbrev pub IsValueOutcome : ℕ → ℕ → ℕ → Option Kept → Value → outcome.Outcome → Type 0
+IsValueOutcome form from count query d (Text text) =
     (f : Form) × (q : QueryTree) × IsAskedOf form query f q
-    × (string_bytes text ≡ answer_of count f q d)
-IsValueOutcome form count query d Usage = (form_of form ≡ None) ⊎ (query_kept query ≡ None)
-IsValueOutcome form count query d (Fault fault) =
+    × (string_bytes text ≡ answer_of from count f q d)
+IsValueOutcome form from count query d Usage = (form_of form ≡ None) ⊎ (query_kept query ≡ None)
+IsValueOutcome form from count query d (Fault fault) =
     (f : Form) × (q : QueryTree) × IsAskedOf form query f q
     × ((fault ≡ find.NoMemory) ⊎ (fault ≡ find.StepsUsedUp))
-IsValueOutcome form count query d (Misread fault place) = ⊥
+IsValueOutcome form from count query d (Misread fault place) = ⊥
 
 -- of what is asked
-abbrev pub IsAskedOutcome : ℕ → ℕ → Given → Option Kept → outcome.Outcome → Type 0
-IsAskedOutcome form count (given.Bytes bytes) query o = IsAskOutcome form count query bytes.now o
-IsAskedOutcome form count (given.Document d) query o =
-    IsValueOutcome form count query (document_in d.now) o
+abbrev pub IsAskedOutcome : ℕ → ℕ → ℕ → Given → Option Kept → outcome.Outcome → Type 0
+IsAskedOutcome form from count (given.Bytes bytes) query o = IsAskOutcome form from count query bytes.now o
+IsAskedOutcome form from count (given.Document d) query o =
+    IsValueOutcome form from count query (document_in d.now) o
 
 -- what is kept has such an outcome, which is told and lent, and still has its query or its document
 pub record Asks (IsOutcome : Option Kept → outcome.Outcome → ℕ → Type 0) (old new : Option Kept)

@@ -1,4 +1,5 @@
 //! The calls that lend their answers.
+use super::done;
 use crate::{
     Handle, Kept, Lent, Report, jp_ask, jp_ask_document, jp_clear, jp_document_new, jp_query_new,
 };
@@ -13,17 +14,6 @@ const UNKNOWN: Report = Report {
     length: 9,
     steps: 9,
 };
-
-/// A report of a text of this length, for which so many steps were made.
-fn done(length: usize, steps: u64) -> Report {
-    Report {
-        status: 0,
-        kind: 0,
-        place: 0,
-        length,
-        steps,
-    }
-}
 
 /// A handle that keeps this query.
 fn query(alloc: Global, text: &[u8]) -> Result<Handle, Fail> {
@@ -55,6 +45,7 @@ fn asked(
     query: &mut Handle,
     document: &[u8],
     form: u32,
+    from: u64,
     count: u64,
     limit: u64,
 ) -> Result<(Report, Vec<u8>), Fail> {
@@ -64,6 +55,7 @@ fn asked(
         query,
         document,
         form,
+        from,
         count,
         limit,
         &mut text,
@@ -124,11 +116,34 @@ fn asks_again_and_again(rt: HostRuntime) -> Result<(), Fail> {
     for (text, document, form, count, report, lines) in rows {
         let mut query = query(alloc, text)?;
         for _ in 0..3 {
-            let (told, given) = asked(alloc, &mut query, document, form, count, 0)?;
+            let (told, given) = asked(alloc, &mut query, document, form, 0, count, 0)?;
             assert_eq!(rt; given.as_slice(), lines);
             assert_eq!(rt; told.length, report.length);
             assert_eq!(rt; told.status, 0);
         }
+    }
+    Ok(())
+}
+
+#[test]
+fn asks_behind_the_first_ones(rt: HostRuntime) -> Result<(), Fail> {
+    let alloc = rt.alloc();
+    let document = br#"{"a":[7,{"b":8},9]}"#;
+    let rows: [(&[u8], u32, u64, u64, &[u8]); 9] = [
+        (b"$.a[*]", 0, 0, 2, b"7\n{\"b\":8}\n"),
+        (b"$.a[*]", 0, 1, 1, b"{\"b\":8}\n"),
+        (b"$.a[*]", 2, 2, 0, b"$['a'][2]\t9\n"),
+        (b"$.a[*]", 1, 3, 0, b""),
+        (b"$..*", 1, 3, 1, b"$['a'][2]\n"),
+        (b"$..*", 1, 4, 7, b"$['a'][1]['b']\n"),
+        (b"$.a[0,0]", 1, 1, 1, b"$['a'][0]\n"),
+        (b"$.a[0]", 1, 0, 1, b"$['a'][0]\n"),
+        (b"$.a[0]", 1, 1, 0, b""),
+    ];
+    for (text, form, from, count, lines) in rows {
+        let mut query = query(alloc, text)?;
+        let (_, given) = asked(alloc, &mut query, document, form, from, count, 0)?;
+        assert_eq!(rt; given.as_slice(), lines);
     }
     Ok(())
 }
@@ -158,11 +173,11 @@ fn asks_one_document_after_another(rt: HostRuntime) -> Result<(), Fail> {
             (br#"{"a":[1],"b":5}"#, b"", b""),
         ] {
             assert_eq!(rt;
-                asked(alloc, &mut named, document, 0, 0, 0)?.1.as_slice(),
+                asked(alloc, &mut named, document, 0, 0, 0, 0)?.1.as_slice(),
                 one
             );
             assert_eq!(rt;
-                asked(alloc, &mut walks, document, 0, 0, 0)?.1.as_slice(),
+                asked(alloc, &mut walks, document, 0, 0, 0, 0)?.1.as_slice(),
                 other
             );
         }
@@ -175,26 +190,28 @@ fn tells_why_there_is_no_answer(rt: HostRuntime) -> Result<(), Fail> {
     let alloc = rt.alloc();
     for text in [b"$.a[0]".as_slice(), b"$..*"] {
         let mut query = query(alloc, text)?;
-        asked(alloc, &mut query, br#"{"a":[7]}"#, 0, 0, 0)?;
-        let (told, path) = asked(alloc, &mut query, br#"{"a":[0,2.5]}"#, 0, 0, 0)?;
+        asked(alloc, &mut query, br#"{"a":[7]}"#, 0, 0, 0, 0)?;
+        let (told, path) = asked(alloc, &mut query, br#"{"a":[0,2.5]}"#, 0, 0, 0, 0)?;
         assert_eq!(rt; (told.status, told.kind, told.length), (3, 2, 9));
         assert_eq!(rt; path.as_slice(), b"$['a'][1]".as_slice());
-        let (told, nothing) = asked(alloc, &mut query, b"[1,]", 0, 0, 0)?;
+        let (told, nothing) = asked(alloc, &mut query, b"[1,]", 0, 0, 0, 0)?;
         assert_eq!(rt; (told.status, told.kind), (3, 1));
         assert_eq!(rt; nothing.as_slice(), b"".as_slice());
-        let (told, nothing) = asked(alloc, &mut query, b"[1]", 3, 0, 0)?;
+        let (told, nothing) = asked(alloc, &mut query, b"[1]", 3, 0, 0, 0)?;
         assert_eq!(rt; (told.status, told.length), (2, 0));
         assert_eq!(rt;
-            asked(alloc, &mut query, br#"{"a":[7]}"#, 1, 1, 0)?.0.status,
+            asked(alloc, &mut query, br#"{"a":[7]}"#, 1, 0, 1, 0)?
+                .0
+                .status,
             0
         );
     }
     let mut walks = query(alloc, b"$.a[*]")?;
-    let (told, nothing) = asked(alloc, &mut walks, br#"{"a":[7,8]}"#, 0, 0, 10)?;
+    let (told, nothing) = asked(alloc, &mut walks, br#"{"a":[7,8]}"#, 0, 0, 0, 10)?;
     assert_eq!(rt; (told.status, told.steps), (6, 10));
     assert_eq!(rt; nothing.as_slice(), b"".as_slice());
     assert_eq!(rt;
-        asked(alloc, &mut walks, br#"{"a":[7,8]}"#, 0, 0, 11)?.0,
+        asked(alloc, &mut walks, br#"{"a":[7,8]}"#, 0, 0, 0, 11)?.0,
         done(4, 11)
     );
     Ok(())
@@ -212,12 +229,21 @@ fn asks_what_is_kept(rt: HostRuntime) -> Result<(), Fail> {
         &mut [],
         &mut report,
     );
-    for (count, lines) in [(0, b"7\n8\n".as_slice()), (1, b"7\n"), (5, b"7\n8\n")] {
+    for (from, count, lines) in [
+        (0, 0, b"7\n8\n".as_slice()),
+        (0, 1, b"7\n"),
+        (0, 5, b"7\n8\n"),
+        (1, 0, b"8\n"),
+        (1, 1, b"8\n"),
+        (2, 1, b""),
+        (u64::MAX, u64::MAX, b""),
+    ] {
         let status = jp_ask_document(
             alloc,
             &mut one,
             &mut document,
             0,
+            from,
             count,
             0,
             &mut text,
@@ -233,14 +259,25 @@ fn asks_what_is_kept(rt: HostRuntime) -> Result<(), Fail> {
         0,
         0,
         0,
+        0,
         &mut text,
         &mut report,
     );
     assert_eq!(rt; (status, text.length, report.steps), (2, 0, 0));
-    let status = jp_ask(alloc, &mut document, b"[]", 0, 0, 0, &mut text, &mut report);
+    let status = jp_ask(
+        alloc,
+        &mut document,
+        b"[]",
+        0,
+        0,
+        0,
+        0,
+        &mut text,
+        &mut report,
+    );
     assert_eq!(rt; (status, text.length), (2, 0));
     jp_clear(alloc, &mut one);
-    let status = jp_ask(alloc, &mut one, b"[]", 0, 0, 0, &mut text, &mut report);
+    let status = jp_ask(alloc, &mut one, b"[]", 0, 0, 0, 0, &mut text, &mut report);
     assert_eq!(rt; (status, text.length), (2, 0));
     Ok(())
 }

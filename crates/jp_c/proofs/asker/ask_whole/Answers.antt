@@ -13,6 +13,6 @@ returns-in-Ok-clause-answer c =
       document_in c.in-Ok.flat,
       c.in-Ok.ensures.ok,
       lines
-          ∙ ap (λ t. string_bytes t ++ answer_of c.args.count c.args.form q (lent_flat c.value.result)) c.take_room-room.ensures
-          ∙ ap (λ d. text ++ answer_of c.args.count c.args.form q d) c.value.ensures,
+          ∙ ap (λ t. string_bytes t ++ answer_of c.args.from c.args.count c.args.form q (lent_flat c.value.result)) c.take_room-room.ensures
+          ∙ ap (λ d. text ++ answer_of c.args.from c.args.count c.args.form q d) c.value.ensures,
     )) c.walk-asked.ensures.answer

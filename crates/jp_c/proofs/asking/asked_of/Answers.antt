@@ -11,16 +11,17 @@ use Rattle.jp_c.proofs.asking.asked_of.Goals as goal
 pub returns-in-Bytes : goal.returns-in-Bytes
 returns-in-Bytes c =
     let a = c.args in
+    let w = a.wanted in
     let kept = Some a.kept.now in
     let f = c.in-Some.form in
     let q = query_of c.in-Query.asker.query.query in
     let o = c.placed.result.outcome in
     let steps = c.placed.result.steps in
-    let is : IsAskedOf a.form_number kept f q = record {
+    let is : IsAskedOf w.form kept f q = record {
       form_is = sym c.form.ensures ∙ c.in-Some.is;
       query_is = ap (λ k. query_kept (Some k)) c.in-Query.is;
     } in
-    let told = told_of_bytes a.limit a.form_number a.count kept f q c.in-Bytes.document.now is steps
+    let told = told_of_bytes w.limit w.form w.from w.count kept f q c.in-Bytes.document.now is steps
     c.ask-answer.new.self.memory.text c.ask-answer.result c.answered-answered.result.0.outcome o
     c.answered-answered.result.0.steps c.answered-answered.ensures.outcome
     c.ask-answer.ensures.answer c.ask-answer.ensures.fault c.answered-answered.ensures.makes
@@ -30,7 +31,7 @@ returns-in-Bytes c =
       answers = record {
         o = o;
         made = steps;
-        is = subst (λ g. Within a.limit (IsAskedOutcome a.form_number a.count g kept) o steps)
+        is = subst (λ g. Within w.limit (IsAskedOutcome w.form w.from w.count g kept) o steps)
             (sym c.in-Bytes.is) told;
         reports = c.tell.ensures.report;
         answers = ap (λ r. r.status) c.tell.ensures.report;
@@ -44,27 +45,28 @@ returns-in-Bytes c =
 pub returns-in-Document : goal.returns-in-Document
 returns-in-Document c =
     let a = c.args in
+    let w = a.wanted in
     let kept = Some a.kept.now in
     let f = c.in-Some.form in
     let q = query_of c.in-Query.asker.query.query in
     let answered = c.answered-answered-in-Document in
     let o = answered.result.0.outcome in
     let steps = answered.result.0.steps in
-    let is : IsAskedOf a.form_number kept f q = record {
+    let is : IsAskedOf w.form kept f q = record {
       form_is = sym c.form.ensures ∙ c.in-Some.is;
       query_is = ap (λ k. query_kept (Some k)) c.in-Query.is;
     } in
-    let told = told_of_value a.form_number a.count kept f q c.ask_value-answer.new.self.memory.text
+    let told = told_of_value w.form w.from w.count kept f q c.ask_value-answer.new.self.memory.text
     c.ask_value-answer.result o (lent_flat c.value.result) is answered.ensures.outcome
     c.ask_value-answer.ensures.answer c.ask_value-answer.ensures.fault in
-    let of_flat = subst (λ d. IsValueOutcome a.form_number a.count kept d o) c.value.ensures told in
+    let of_flat = subst (λ d. IsValueOutcome w.form w.from w.count kept d o) c.value.ensures told in
     let same = c.tell-in-Document.ensures.query ∙ answered.ensures.query
     ∙ c.ask_value-answer.ensures.query in
     record {
       answers = record {
         o = o;
         made = steps;
-        is = subst (λ g. Within a.limit (IsAskedOutcome a.form_number a.count g kept) o steps)
+        is = subst (λ g. Within w.limit (IsAskedOutcome w.form w.from w.count g kept) o steps)
             (sym c.in-Document.is) (of_flat, answered.ensures.makes);
         reports = c.tell-in-Document.ensures.report;
         answers = ap (λ r. r.status) c.tell-in-Document.ensures.report;

@@ -5,6 +5,6 @@ use Rattle.jp_c.proofs.asking.asked_of_box.Goals as goal
 
 pub returns : goal.returns
 returns c =
-    subst (λ k. Asks (λ o. Within c.args.limit (IsAskedOutcome c.args.form c.args.count c.args.given o))
+    subst (λ k. Asks (λ o. Within c.args.wanted.limit (IsAskedOutcome c.args.wanted.form c.args.wanted.from c.args.wanted.count c.args.given o))
     (Some k) (Some c.asked_of.new.kept) c.asked_of.result.0 c.asked_of.result.1)
     c.as_mut.ensures.value c.asked_of.ensures

@@ -12,7 +12,7 @@ returns-in-Some c =
         o = x.o;
         made = x.made;
         is = (
-          asked_of_document c.args.form c.args.count (option_map (λ b. b.value) c.args.kept.now)
+          asked_of_document c.args.wanted.form c.args.wanted.from c.args.wanted.count (option_map (λ b. b.value) c.args.kept.now)
               (option_map (λ b. b.value) c.args.other.now) (document_in c.in-Some.flat.now) x.o there
               x.is.0,
           x.is.1,
