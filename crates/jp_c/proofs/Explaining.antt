@@ -4,11 +4,12 @@ use Rattle.std.specs.Str.{chars, IsUtf8}
 use Rattle.jp_check.specs.Accepted.{IsNotAccepted}
 use Rattle.jp_check.specs.Refused.{IsRefused}
 use Rattle.jp_check.specs.declared.profile.Profile.{Profile}
+use Rattle.jp_command.specs.Explained.{ExplainsRefusal}
 use Rattle.jp_explain.specs.declared.explanation.Explanation.{Explanation}
 use Rattle.jp_query.specs.declared.refusal.Refusal.{Refusal}
 use Rattle.jp_query.specs.declared.refusal.RefusalKind.TheVariants.{NoMemory}
 use Rattle.jsonpath.specs.Find.{RefusesText}
-use Rattle.jp_c.specs.Explained.{Explains, IsExplanation, IsPart, refused}
+use Rattle.jp_c.specs.Explained.{Explains, IsPart, refused}
 use Rattle.jp_c.specs.declared.explained.Part.{Part}
 
 module _ (profile : Profile) (query : List ℕ) (r : Refusal) where
@@ -22,7 +23,7 @@ module _ (profile : Profile) (query : List ℕ) (r : Refusal) where
   pub part-told : {E Z : Type 0} (part : Part) (e : Explanation) (told : Result (String Z) E)
       → IsUtf8 query → r.kind ≢ NoMemory → IsRefused profile (chars query) r
       → (r.kind ≡ NoMemory) ⊎ IsNotAccepted profile (chars query)
-      → IsExplanation profile query r e
+      → ExplainsRefusal profile query r e
       → IfOk told (λ text. IsPart part e (string_bytes text))
       → IfOk told (λ text. Explains profile part query (string_bytes text))
   part-told part e (Ok text) utf8 other is only explains same =

@@ -1,12 +1,10 @@
 -- What is told of a query that is refused.
-use Rattle.std.specs.Prelude.{◌≡◌, ℕ, List, [], Option, Some, None, IfSome, String, string_bytes}
+use Rattle.std.specs.Prelude.{◌≡◌, ℕ, List, [], Option, Some, None, String, string_bytes}
 use Rattle.std.specs.Str.{chars, IsUtf8}
 use Rattle.jp_check.specs.declared.profile.Profile.{Profile}
-use Rattle.jp_explain.specs.Explanation.{IsPlacedAt, explanation_text}
-use Rattle.jp_explain.specs.Place.{front_of, rest_of}
-use Rattle.jp_explain.specs.Reasons.{reason_of}
+use Rattle.jp_command.specs.Explained.{ExplainsRefusal}
+use Rattle.jp_explain.specs.Explanation.{explanation_text}
 use Rattle.jp_explain.specs.Sentences.{sentence_of}
-use Rattle.jp_explain.specs.Suggestion.{IsQuery}
 use Rattle.jp_explain.specs.declared.explanation.Explanation.{Explanation}
 use Rattle.jp_query.specs.declared.refusal.Refusal.{Refusal}
 use Rattle.jp_tree.specs.Tree.{QueryTree}
@@ -14,14 +12,6 @@ use Rattle.jsonpath.specs.Find.{RefusesText}
 use Rattle.jp_c.specs.Asked.{IsAcceptedInBytes}
 use Rattle.jp_c.specs.declared.explained.Part.{Part}
 use Rattle.jp_c.specs.declared.explained.Part.TheVariants.{Whole, Sentence, Suggestion}
-
--- the explanation is of the query's text, by the place and the kind of its refusal, and suggests only
--- what is accepted
-pub record IsExplanation (profile : Profile) (query : List ℕ) (r : Refusal) (e : Explanation) : Type 0 where
-  pub placed : IsPlacedAt (chars query) r.place e
-  pub reason : e.reason
-      ≡ reason_of r.kind (front_of r.place (chars query)) (rest_of r.place (chars query))
-  pub suggestion : IfSome e.suggestion (λ text. IsQuery profile (chars (string_bytes text)))
 
 -- the bytes of a suggestion, none where there is none
 abbrev pub suggested : {Z : Type 0} → Option (String Z) → List ℕ
@@ -41,7 +31,7 @@ pub record TellsWhy (profile : Profile) (part : Part) (query told : List ℕ) : 
   pub e : Explanation
   pub utf8 : IsUtf8 query
   pub refused : RefusesText profile (chars query) r
-  pub explained : IsExplanation profile query r e
+  pub explained : ExplainsRefusal profile query r e
   pub is : IsPart part e told
 
 -- why the query is refused is told; or it is accepted, or no text, and nothing is told
