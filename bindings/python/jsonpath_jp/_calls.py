@@ -1,7 +1,7 @@
 """What one call of libjp.so gives, in Python's words: a text, or an error."""
 import ctypes
 import functools
-from typing import Any, Callable, List, Optional, Tuple, Union
+from typing import Any, Callable, Dict, List, Optional, Tuple, Union
 
 from . import _numbers
 from ._errors import DocumentError, QueryError, StepsUsedUp
@@ -140,15 +140,23 @@ def _misreading(document: bytes) -> Tuple[Any, ...]:
     """Where a document that is refused goes wrong, the name of the reason, and the sentence for it; nothing of
     one that is too large to be read."""
     place = Place()
-    texts = []
-    for part in (_numbers.DOCUMENT_REASON, _numbers.DOCUMENT_SENTENCE):
-        report, text = told(library.jp_explain_document, document, len(document), part, place)
-        if report.status == _numbers.NO_MEMORY:
-            raise MemoryError(_NO_MEMORY_TEXT)
-        if report.status != _numbers.DONE:
-            return ()
-        texts.append(text)
-    return place.offset, place.line, place.column, texts[0], texts[1]
+    reason = _part_of_misreading(document, _numbers.DOCUMENT_REASON, place)
+    if reason is None:
+        return ()
+    # The sentence goes by the reason alone, so it is asked for once.
+    if reason not in _sentences:
+        _sentences[reason] = _part_of_misreading(document, _numbers.DOCUMENT_SENTENCE, place)
+    return place.offset, place.line, place.column, reason, _sentences[reason]
+
+
+_sentences: Dict[str, Optional[str]] = {}
+
+
+def _part_of_misreading(document: bytes, part: int, place: Place) -> Optional[str]:
+    report, text = told(library.jp_explain_document, document, len(document), part, place)
+    if report.status == _numbers.NO_MEMORY:
+        raise MemoryError(_NO_MEMORY_TEXT)
+    return text if report.status == _numbers.DONE else None
 
 
 def encoded(query: str) -> bytes:

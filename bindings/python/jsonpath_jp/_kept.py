@@ -5,7 +5,7 @@ an answer. All runs but the first are made on a thread of their own, so that who
 """
 import ctypes
 import threading
-from typing import Iterator, List, Optional, Union
+from typing import Iterator, List, Optional, Tuple, Union
 
 from . import _numbers
 from ._calls import LARGEST_KEPT, NoStack, accepted, answer_of, encoded, raised, refusal, with_room
@@ -15,8 +15,10 @@ from ._threads import forks, is_left, on_a_thread, waited_for
 
 # The steps of the first run of a query, which take less than a second.
 FIRST_RUN = 1 << 24
-# All nodes, where a call is told how many are asked for.
-ALL = 0
+# Which nodes are asked for: how many are passed over, and how many of the others are given, where 0 is all.
+Span = Tuple[int, int]
+ALL: Span = (0, 0)
+FIRST: Span = (0, 1)
 # How many handles of a query are kept that no call uses.
 _MOST_SPARE = 16
 
@@ -75,7 +77,7 @@ class KeptDocument:
         self.text = text
         self._reading: Optional[_Reading] = with_room(_Reading)(text)
 
-    def asked_by(self, asker: "_Asker", form: int, count: int, steps: int) -> int:
+    def asked_by(self, asker: "_Asker", form: int, span: Span, steps: int) -> int:
         reading = self._reading
         if reading is not None and reading.is_lost():
             _lost.append(reading)
@@ -84,7 +86,7 @@ class KeptDocument:
             reading = self._reading = _Reading(self.text)
         with reading.lock:
             return library.jp_ask_document(
-                asker.handle, reading.handle, form, count, steps, asker.text, asker.report
+                asker.handle, reading.handle, form, *span, steps, asker.text, asker.report
             )
 
     def leave(self) -> None:
@@ -119,18 +121,18 @@ class KeptQuery:
         self._spare: List[_Asker] = [with_room(_Asker)(self)]
 
     def ask(
-        self, document: Union[bytes, KeptDocument], form: int, count: int, limit: Optional[int]
+        self, document: Union[bytes, KeptDocument], form: int, span: Span, limit: Optional[int]
     ) -> str:
-        """The lines of so many nodes that the query selects."""
+        """The lines of the nodes asked for that the query selects."""
         steps = FIRST_RUN if limit is None or limit > FIRST_RUN else limit
         try:
-            answer = self._once(document, form, count, steps)
+            answer = self._once(document, form, span, steps)
         except NoStack:
-            answer = on_a_thread(self._once, document, form, count, steps)
+            answer = on_a_thread(self._once, document, form, span, steps)
         if not is_short(answer, limit):
             return raised(answer)
         try:
-            return raised(waited_for(self.go_on, document, form, count, runs(2 * FIRST_RUN, limit)))
+            return raised(waited_for(self.go_on, document, form, span, runs(2 * FIRST_RUN, limit)))
         except (Error, MemoryError):
             raise
         except BaseException:
@@ -139,19 +141,19 @@ class KeptQuery:
             raise
 
     def go_on(
-        self, document: Union[bytes, KeptDocument], form: int, count: int, each: Iterator[int]
+        self, document: Union[bytes, KeptDocument], form: int, span: Span, each: Iterator[int]
     ) -> Union[str, Exception]:
         """What the query answers in the first of the runs that suffices, or at the latest in the last, on a
         thread with room."""
         kept = document if isinstance(document, KeptDocument) else KeptDocument(document)
         for steps in each:
-            answer = self._once(kept, form, count, steps)
+            answer = self._once(kept, form, span, steps)
             if not isinstance(answer, StepsUsedUp) or is_left():
                 break
         return answer
 
     def _once(
-        self, document: Union[bytes, KeptDocument], form: int, count: int, steps: int
+        self, document: Union[bytes, KeptDocument], form: int, span: Span, steps: int
     ) -> Union[str, Exception]:
         """What the query answers in one run."""
         try:
@@ -159,11 +161,11 @@ class KeptQuery:
         except IndexError:
             asker = _Asker(self)
         if isinstance(document, KeptDocument):
-            status, size = document.asked_by(asker, form, count, steps), 0
+            status, size = document.asked_by(asker, form, span, steps), 0
         else:
             size = len(document)
             status = library.jp_ask(
-                asker.handle, document, size, form, count, steps, asker.text, asker.report
+                asker.handle, document, size, form, *span, steps, asker.text, asker.report
             )
         text = asker.text
         length = text.length

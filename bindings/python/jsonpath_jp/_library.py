@@ -73,7 +73,7 @@ def _load() -> ctypes.CDLL:
     limit = [ctypes.c_uint64]
     handle = [ctypes.POINTER(Handle)]
     many = [ctypes.POINTER(Question), ctypes.c_size_t]
-    lent = number + limit + limit + [ctypes.POINTER(Text), *report]
+    lent = number + limit + limit + limit + [ctypes.POINTER(Text), *report]
     takes = {
         "version": [],
         "eval": text + text + number + number + limit + room,

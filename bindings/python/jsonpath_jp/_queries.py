@@ -7,10 +7,8 @@ from typing import Any, Iterable, Iterator, List, Optional, Tuple, Union
 from . import _engine, _numbers
 from ._documents import Default, json_bytes
 from ._errors import DocumentError, QueryError, StepsUsedUp
-from ._kept import ALL, KeptDocument, KeptQuery
+from ._kept import ALL, FIRST, KeptDocument, KeptQuery, Span
 from ._paths import Step, steps_of
-
-_ONE = 1
 
 
 class Match:
@@ -104,15 +102,18 @@ class Query:
         self, document: "Asked", limit: Optional[int] = None, default: Default = None
     ) -> Optional["Match"]:
         """The first of the nodes that `find` gives, or None. The evaluation ends with it."""
-        text = self._asked(document, _numbers.BOTH, _ONE, limit, default)
+        text = self._asked(document, _numbers.BOTH, FIRST, limit, default)
         return _match(text[:-1]) if text else None
 
     def finditer(
         self, document: "Asked", limit: Optional[int] = None, default: Default = None
     ) -> Iterator["Match"]:
-        """The nodes that `find` gives, each made when it is asked for. The query is answered, and an error
-        raised, at once."""
-        return map(_match, _each_line(self._asked(document, _numbers.BOTH, ALL, limit, default)))
+        """The nodes that `find` gives, looked for as they are asked for: the first is found without the others,
+        and all take at most three times the steps of `find`. The document is read at once, and kept as long
+        as the iterator. `StepsUsedUp` is raised where the next nodes need more steps than the limit."""
+        steps = None if limit is None else _limit(limit)
+        kept = document._kept if isinstance(document, Document) else KeptDocument(json_bytes(document, default))
+        return _each(self._kept, kept, steps)
 
     def paths(
         self, document: "Asked", limit: Optional[int] = None, default: Default = None
@@ -130,16 +131,16 @@ class Query:
         self, document: "Asked", limit: Optional[int] = None, default: Default = None
     ) -> bool:
         """Whether the query selects a node. The evaluation ends with the first."""
-        return self._asked(document, _numbers.PATHS, _ONE, limit, default) != ""
+        return self._asked(document, _numbers.PATHS, FIRST, limit, default) != ""
 
     def _asked(
-        self, document: "Asked", form: int, count: int, limit: Optional[int], default: Default
+        self, document: "Asked", form: int, span: Span, limit: Optional[int], default: Default
     ) -> str:
         if limit is not None:
             limit = _limit(limit)
         if isinstance(document, Document):
-            return self._kept.ask(document._kept, form, count, limit)
-        return self._kept.ask(json_bytes(document, default), form, count, limit)
+            return self._kept.ask(document._kept, form, span, limit)
+        return self._kept.ask(json_bytes(document, default), form, span, limit)
 
     def __str__(self) -> str:
         return self.text
@@ -266,9 +267,8 @@ def finditer(
     limit: Optional[int] = None,
     default: Default = None,
 ) -> Iterator[Match]:
-    """The nodes that `find` gives, each made when it is asked for. The query is answered, and an error
-    raised, at once."""
-    return map(_match, _each_line(_answer(query, document, _numbers.BOTH, extended, limit, default)))
+    """The nodes that `find` gives, looked for as they are asked for, as `Query.finditer` does."""
+    return _new(query, document, extended).finditer(document, limit, default)
 
 
 def find_many(
@@ -410,6 +410,18 @@ def _matches(text: str) -> List[Match]:
 def _lines(text: str) -> List[str]:
     # Each line ends with a newline, which no path and no value has inside.
     return text.split("\n")[:-1]
+
+
+def _each(query: KeptQuery, document: KeptDocument, limit: Optional[int]) -> Iterator[Match]:
+    """The nodes, in pages of 1, 2, 4 and so on. Each page is one more than all before it, which it passes over, so
+    that all of them cost three walks at most."""
+    passed, is_full = 0, True
+    while is_full:
+        count = passed + 1
+        lines = query.ask(document, _numbers.BOTH, (passed, count), limit)
+        passed += count
+        yield from map(_match, _each_line(lines))
+        is_full = lines.count("\n") == count
 
 
 def _each_line(text: str) -> Iterator[str]:

@@ -1,6 +1,7 @@
 """Queries and documents that are kept. Expected values are by hand."""
 import copy
 import gc
+import json
 import os
 import pickle
 import signal
@@ -91,13 +92,64 @@ class Queries(unittest.TestCase):
             self.assertEqual(query.find_one(document, limit=100), jp.Match("$[0]", "0"))
             self.assertTrue(query.exists(document, limit=100))
 
+    def test_finditer_gives_what_find_does(self):
+        query = jp.compile("$[*]")
+        for size in (0, 1, 2, 3, 4, 6, 7, 8, 100):
+            numbers = list(range(size))
+            for document in (numbers, json.dumps(numbers), jp.Document(numbers)):
+                self.assertEqual(list(query.finditer(document)), query.find(document))
+        for twice in jp.finditer("$[0,0]", "[7]"), jp.Document("[7]").finditer("$[0,0]"):
+            self.assertEqual([match.path for match in twice], ["$[0]", "$[0]"])
+        self.assertEqual([match.path for match in jp.finditer("$.a[1]", '{"a":[7,8]}')], ["$['a'][1]"])
+
+    def test_finditer_finds_the_first_of_a_million_alone(self):
+        text = f"[{'0,' * 999_999}0]"
+        with self.assertRaises(jp.StepsUsedUp):
+            jp.find("$[*]", text, limit=1_000_000)
+        each = jp.finditer("$[*]", text, limit=100)
+        self.assertEqual([next(each).path for _ in range(15)], [f"$[{at}]" for at in range(15)])
+        # The pages get longer, and each has the whole limit.
+        with self.assertRaises(jp.StepsUsedUp):
+            list(each)
+        self.assertEqual(list(each), [])
+
+    def test_what_finditer_keeps_is_freed(self):
+        freed = []
+
+        class Counted(_kept.Handle):
+            def __del__(self):
+                super().__del__()
+                freed.append(self)
+
+        with mock.patch.object(_kept, "Handle", Counted):
+            each = jp.compile("$[*]").finditer("[1,2,3,4]")
+            self.assertEqual((next(each).value, next(each).value), (1, 2))
+            self.assertEqual(freed, [])
+            del each
+            gc.collect()
+            # That of the document and that of the query.
+            self.assertEqual(len(freed), 2)
+
+    def test_two_at_once(self):
+        query, document = jp.compile("$..b"), jp.Document('[{"b":1},{"b":{"b":2}},{"b":3}]')
+        pairs = zip(query.finditer(document), query.finditer('{"b":[{"b":4},5,{"b":6}]}'))
+        self.assertEqual(
+            [(one.text, other.text) for one, other in pairs],
+            [("1", '[{"b":4},5,{"b":6}]'), ('{"b":2}', "4"), ("2", "6")],
+        )
+
     def test_finditer_makes_values_when_asked(self):
         with mock.patch.object(_queries.json, "loads", side_effect=_queries.json.loads) as loads:
             each = jp.compile("$[*]").finditer("[1,[2],3]")
             self.assertEqual([next(each).value, next(each).value], [1, [2]])
             self.assertEqual(loads.call_count, 2)
+        # What can be told at once is.
         with self.assertRaises(jp.DocumentError):
             jp.compile("$").finditer("[")
+        with self.assertRaises(ValueError):
+            jp.compile("$").finditer("[]", limit=0)
+        with self.assertRaises(jp.QueryError):
+            jp.finditer("$[", "[]")
 
     def test_a_value_is_made_once(self):
         (match,) = jp.find("$", [[1]])
