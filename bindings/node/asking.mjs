@@ -41,9 +41,28 @@ export function keptBy(bytes) {
 }
 
 /** The lines of what an engine is asked of bytes, or of a document that it keeps. */
-export function linesBy(asks, { asked, text, limit }, document, form, count) {
+export function linesBy(asks, { asked, text, limit }, document, form, span) {
   // Each line ends with a newline, which no path and no value has inside.
-  return told(asks.ask(asked, document, form, count, limit), text, asked.profile, document).split("\n").slice(0, -1);
+  return told(asks.ask(asked, document, form, span, limit), text, asked.profile, document).split("\n").slice(0, -1);
+}
+
+/**
+ * The lines of a question, asked for in pages of 1, 2, 4 and so on. Each page is one more than all before it, which
+ * it passes over, so that all of them cost three walks at most. What `isOwn` is forgotten at the end.
+ */
+export function* eachLineBy({ asks, kept }, isOwn, question, form) {
+  try {
+    let lines;
+    for (let passed = 0n, count; lines === undefined || BigInt(lines.length) === count; passed += count) {
+      count = passed + 1n;
+      lines = linesBy(asks, question, kept, form, [passed, count]);
+      yield* lines;
+    }
+  } finally {
+    if (isOwn) {
+      asks.forget(kept);
+    }
+  }
 }
 
 /** The lines of each question, or its error, where `given` tells who keeps the document. */

@@ -7,8 +7,11 @@ import { Instance, NO_MEMORY_TEXT } from "./instance.mjs";
 import { DOCUMENT_REASON, DOCUMENT_SENTENCE, DONE, NO_LIMIT, NO_MEMORY, SENTENCE, SUGGESTION } from "./numbers.mjs";
 import { textOf } from "./texts.mjs";
 
-/** All nodes, where a call is told how many are asked for. */
-export const ALL = 0n;
+/** Which nodes are asked for: how many are passed over, and how many of the others are given, where 0 is all. */
+export const ALL = [0n, 0n];
+
+// The sentences of the reasons why documents were refused.
+const sentencesOf = new Map();
 
 // An instance that took so many bytes more than it needs for what it keeps is let go, since its memory never shrinks.
 const SPARE = 1 << 26;
@@ -77,18 +80,18 @@ export class Engine {
   }
 
   /**
-   * The lines of the nodes that the query selects in the document, a `KeptDocument` or bytes: of the first ones, as
-   * many as `count` says, made in so many steps at most, both BigInts. The query is a `KeptQuery`, or has the same
-   * members and is kept until another such is asked.
+   * The lines of the nodes asked for that the query selects in the document, a `KeptDocument` or bytes, made in so
+   * many steps at most, all BigInts. The query is a `KeptQuery`, or has the same members and is kept until another
+   * such is asked.
    */
-  ask(query, document, form, count = ALL, limit = NO_LIMIT) {
+  ask(query, document, form, span = ALL, limit = NO_LIMIT) {
     return this.#run((instance) => {
       const { jp_ask, jp_ask_document } = instance.exports;
       const asked = this.#handleOf(instance, query);
       if (asked.handle === null) {
         return asked.outcome;
       }
-      const words = [form, count, limit];
+      const words = [form, ...span, limit];
       if (!(document instanceof KeptDocument)) {
         return instance.lend([document], (bytes, told) => jp_ask(asked.handle, ...bytes, ...words, ...told));
       }
@@ -132,21 +135,27 @@ export class Engine {
    * the reason; and `sentence`.
    */
   explainDocument(document) {
+    const { place, text: reason } = this.#partOfMisreading(document, DOCUMENT_REASON);
+    // The sentence goes by the reason alone, so it is asked for once.
+    if (!sentencesOf.has(reason)) {
+      sentencesOf.set(reason, this.#partOfMisreading(document, DOCUMENT_SENTENCE).text);
+    }
+    return { ...place, reason, sentence: sentencesOf.get(reason) };
+  }
+
+  #partOfMisreading(document, part) {
     let place;
-    const [reason, sentence] = [DOCUMENT_REASON, DOCUMENT_SENTENCE].map((part) => {
-      const { status, text } = this.#run((instance) => {
-        const call = (bytes, told) =>
-          instance.exports.jp_explain_document(...bytes, part, instance.placeAddress, ...told);
-        const outcome = instance.write([document], call);
-        place = instance.placeTold();
-        return outcome;
-      });
-      if (status === NO_MEMORY) {
-        throw new RangeError(NO_MEMORY_TEXT);
-      }
-      return textOf(text);
+    const { status, text } = this.#run((instance) => {
+      const call = (bytes, told) =>
+        instance.exports.jp_explain_document(...bytes, part, instance.placeAddress, ...told);
+      const outcome = instance.write([document], call);
+      place = instance.placeTold();
+      return outcome;
     });
-    return { ...place, reason, sentence };
+    if (status === NO_MEMORY) {
+      throw new RangeError(NO_MEMORY_TEXT);
+    }
+    return { place, text: textOf(text) };
   }
 
   /** The name of a kind that an outcome of that status has. */

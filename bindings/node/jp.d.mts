@@ -48,6 +48,7 @@ export class Query {
   readonly limit: number | bigint | undefined;
   find(document: DocumentLike, options?: Limit): Match[];
   findOne(document: DocumentLike, options?: Limit): Match | null;
+  findIter(document: DocumentLike, options?: Limit): Generator<Match, void, undefined>;
   values(document: DocumentLike, options?: Limit): Value[];
   paths(document: DocumentLike, options?: Limit): string[];
   exists(document: DocumentLike, options?: Limit): boolean;
@@ -62,6 +63,7 @@ export class Document {
   constructor(document: Exclude<DocumentLike, Document>);
   find(query: string | Query, options?: Options): Match[];
   findOne(query: string | Query, options?: Options): Match | null;
+  findIter(query: string | Query, options?: Options): Generator<Match, void, undefined>;
   values(query: string | Query, options?: Options): Value[];
   paths(query: string | Query, options?: Options): string[];
   exists(query: string | Query, options?: Options): boolean;
@@ -139,6 +141,15 @@ export function find(query: string | Query, document: DocumentLike, options?: Op
 
 /** The first of these nodes, with which the evaluation stops; null where there is none. */
 export function findOne(query: string | Query, document: DocumentLike, options?: Options): Match | null;
+
+/**
+ * The nodes that `find` gives, looked for as they are asked for: the first is found without the others, and all take
+ * at most three times the steps of `find`. The query and the document are read at once, and the document is kept
+ * until the iterator ends or is left. `StepsUsedUp` is thrown where the next nodes need more steps than the limit.
+ */
+export function findIter(
+  query: string | Query, document: DocumentLike, options?: Options,
+): Generator<Match, void, undefined>;
 
 /**
  * What `find` gives for each query, over one document that is read once, each with the whole limit. A query that is

@@ -7,7 +7,7 @@
  *
  * jp.d.mts has the types, and what each call gives.
  */
-import { answersOf, answersOfBytes, engine, keptBy, linesBy, told } from "./asking.mjs";
+import { answersOf, answersOfBytes, eachLineBy, engine, keptBy, linesBy, told } from "./asking.mjs";
 import { ALL, KeptQuery } from "./engine.mjs";
 import { DocumentError, QueryError, StepsUsedUp } from "./errors.mjs";
 import { BOTH, EXTENDED, NO_LIMIT, PATHS, STANDARD, VALUES } from "./numbers.mjs";
@@ -18,7 +18,7 @@ import { bytesGiven, documentBytes, parsed } from "./values.mjs";
 
 export { DocumentError, QueryError, StepsUsedUp };
 
-const FIRST = 1n;
+const FIRST = [0n, 1n];
 
 export class Match {
   constructor(path, text) {
@@ -75,6 +75,10 @@ export class Query {
     return findOne(this, document, options);
   }
 
+  findIter(document, options) {
+    return findIter(this, document, options);
+  }
+
   values(document, options) {
     return values(this, document, options);
   }
@@ -100,8 +104,7 @@ export class Document {
   }
 
   constructor(document) {
-    // Bytes that are given may change.
-    this.#given = keptBy(bytesGiven(document)?.slice() ?? documentBytes(document));
+    this.#given = keptBy(ownBytes(document));
   }
 
   find(query, options) {
@@ -110,6 +113,10 @@ export class Document {
 
   findOne(query, options) {
     return findOne(query, this, options);
+  }
+
+  findIter(query, options) {
+    return findIter(query, this, options);
   }
 
   values(query, options) {
@@ -138,6 +145,16 @@ export function find(query, document, options) {
 export function findOne(query, document, options) {
   const [line] = linesOf(query, document, options, BOTH, FIRST);
   return line === undefined ? null : matchOf(line);
+}
+
+export function findIter(query, document, options) {
+  const question = questionOfBoth(query, document, options);
+  if (document instanceof Document) {
+    return matchesOf(eachLineBy(givenOf(document), false, question, BOTH));
+  }
+  const { asked, text } = question;
+  told(engine.check(asked.bytes, asked.profile), text, asked.profile);
+  return matchesOf(eachLineBy(keptBy(ownBytes(document)), true, question, BOTH));
 }
 
 export function findMany(queries, document, options) {
@@ -180,6 +197,12 @@ export function version() {
   return engine.version();
 }
 
+function* matchesOf(lines) {
+  for (const line of lines) {
+    yield matchOf(line);
+  }
+}
+
 function matchOf(line) {
   const tab = line.indexOf("\t");
   return new Match(line.slice(0, tab), line.slice(tab + 1));
@@ -202,20 +225,29 @@ function questionOf(query, options) {
   return { ...lastAsked, limit };
 }
 
-function linesOf(query, document, options, form, count = ALL) {
+function questionOfBoth(query, document, options) {
   if (isInWrongOrder(query, document)) {
     throw new TypeError("the query comes first, and the document after it");
   }
-  const question = questionOf(query, options);
+  return questionOf(query, options);
+}
+
+function linesOf(query, document, options, form, span = ALL) {
+  const question = questionOfBoth(query, document, options);
   const { asks, kept } =
     document instanceof Document ? givenOf(document) : { asks: engine, kept: documentBytes(document) };
-  return linesBy(asks, question, kept, form, count);
+  return linesBy(asks, question, kept, form, span);
 }
 
 /** Whether the document is a query, and the query is none. */
 function isInWrongOrder(query, document) {
   const isQuery = (it) => it instanceof Query || (typeof it === "string" && it.startsWith("$"));
   return isQuery(document) && !isQuery(query);
+}
+
+/** The bytes of a document. Those that are given are copied, since they may change. */
+function ownBytes(document) {
+  return bytesGiven(document)?.slice() ?? documentBytes(document);
 }
 
 function queryBytes(query) {

@@ -4,6 +4,7 @@ import { readFileSync } from "node:fs";
 import test from "node:test";
 import v8 from "node:v8";
 import vm from "node:vm";
+import { eachLineBy, engine } from "../asking.mjs";
 import { Engine, KeptDocument, KeptQuery } from "../engine.mjs";
 import * as jp from "../jp.mjs";
 import { DOCUMENT_REFUSED, DONE, PATHS, QUERY_REFUSED, STANDARD, VALUES } from "../numbers.mjs";
@@ -38,6 +39,7 @@ for (const way of Object.keys(ways("$", "0"))) {
       assert.deepEqual(call("paths"), ["$['a'][1]['b']", "$['c']['b']"]);
       assert.deepEqual(call("find"), [new jp.Match("$['a'][1]['b']", "2"), new jp.Match("$['c']['b']", "3")]);
       assert.deepEqual(call("findOne"), new jp.Match("$['a'][1]['b']", "2"));
+      assert.deepEqual([...call("findIter")], call("find"));
       assert.equal(call("exists"), true);
     }
   });
@@ -46,7 +48,7 @@ for (const way of Object.keys(ways("$", "0"))) {
     for (const query of ["$.x", "$..x"]) {
       const call = ways(query, TEXT)[way];
       assert.deepEqual([call("values"), call("paths"), call("find")], [[], [], []]);
-      assert.deepEqual([call("findOne"), call("exists")], [null, false]);
+      assert.deepEqual([call("findOne"), call("exists"), [...call("findIter")]], [null, false, []]);
     }
   });
 
@@ -62,6 +64,41 @@ test("the first node ends the evaluation", () => {
   const query = jp.compile("$[*]", { limit: 6 });
   assert.equal(query.findOne("[1,2]").value, 1);
   assert.equal(query.exists("[1,2]"), true);
+});
+
+test("one node after another is what all are at once", () => {
+  const query = jp.compile("$[*]");
+  for (const size of [0, 1, 2, 3, 4, 6, 7, 8, 100]) {
+    const numbers = [...Array(size).keys()];
+    for (const document of [numbers, bytesOf(JSON.stringify(numbers)), new jp.Document(numbers)]) {
+      assert.deepEqual([...query.findIter(document)], query.find(document));
+    }
+  }
+  assert.deepEqual([...jp.findIter("$[0,0]", "[7]")].map(({ path }) => path), ["$[0]", "$[0]"]);
+});
+
+test("the first of a million nodes is found alone", () => {
+  const text = `[${"0,".repeat(999_999)}0]`;
+  assert.throws(() => jp.find("$[*]", text, { limit: 1_000_000 }), jp.StepsUsedUp);
+  const each = jp.findIter("$[*]", text, { limit: 100 });
+  for (let at = 0; at < 15; at += 1) {
+    assert.equal(each.next().value.path, `$[${at}]`);
+  }
+  // The pages get longer, and each has the whole limit.
+  assert.throws(() => [...each], jp.StepsUsedUp);
+  assert.deepEqual([...each], []);
+});
+
+test("what is asked for one after another goes on beside other calls", () => {
+  const query = jp.compile("$..b");
+  const bytes = bytesOf('{"b":[{"b":4},5,{"b":6}]}');
+  const each = query.findIter(bytes);
+  bytes.fill(0x20);
+  const texts = [];
+  for (const { text } of each) {
+    texts.push(text, ...[...query.findIter('[{"b":1},{"b":2}]')].map((it) => it.text), jp.values("$.a", { a: 7 })[0]);
+  }
+  assert.deepEqual(texts, ['[{"b":4},5,{"b":6}]', "1", "2", 7, "4", "1", "2", 7, "6", "1", "2", 7]);
 });
 
 test("what a query tells of itself", () => {
@@ -138,7 +175,7 @@ test("one text after another", () => {
 });
 
 test("a refused query is told before the document", () => {
-  for (const call of [jp.find, jp.findOne, jp.values, jp.paths, jp.exists]) {
+  for (const call of [jp.find, jp.findOne, jp.findIter, jp.values, jp.paths, jp.exists]) {
     assert.throws(() => call("$[", "[1,]"), jp.QueryError);
   }
 });
@@ -230,7 +267,7 @@ test("a document that is kept is kept where the memory of an answer is given bac
   const digits = 10 + 90 * 2 + 900 * 3 + 9000 * 4 + 90_000 * 5 + 900_000 * 6 + 1_000_001 * 7;
   assert.equal(engine.ask(query, document, PATHS).text.length, 2_000_001 * 4 + digits);
   assert.equal(engine.size, 0);
-  assert.equal(textOf(engine.ask(query, document, VALUES, 2n).text), "0\n0\n");
+  assert.equal(textOf(engine.ask(query, document, VALUES, [0n, 2n]).text), "0\n0\n");
   assert.equal(textOf(engine.ask(query, small, VALUES).text), "5\n");
   assert.ok(engine.size >= kept);
   engine.forget(document);
@@ -238,6 +275,42 @@ test("a document that is kept is kept where the memory of an answer is given bac
   engine.forget(small);
   assert.equal(engine.size, 0);
   assert.equal(textOf(engine.ask(query, small, VALUES).text), "5\n");
+});
+
+test("a document that is kept for an iterator is forgotten with it", () => {
+  const question = { asked: new KeptQuery(bytesOf("$[*]"), STANDARD), text: "$[*]", limit: 0n };
+  for (const isEnded of [false, true]) {
+    const given = { asks: new Engine(module), kept: new KeptDocument(LARGE) };
+    const each = eachLineBy(given, true, question, VALUES);
+    assert.deepEqual([each.next().value, each.next().value], ["0", "0"]);
+    assert.ok(given.asks.size > MOST);
+    if (isEnded) {
+      assert.equal([...each].length, 1_999_999);
+    } else {
+      each.return();
+    }
+    assert.equal(given.asks.size, 0);
+  }
+});
+
+test("a million calls of what is kept leave nothing behind", () => {
+  const query = jp.compile("$.a[*]");
+  const document = new jp.Document({ a: [1, 2] });
+  const bytes = bytesOf('{"a":[7]}');
+  const calls = [
+    [800_000, () => assert.ok(query.exists(document))],
+    [100_000, () => assert.ok(query.exists(bytes))],
+    [50_000, () => assert.equal(query.findIter(document).next().value.text, "1")],
+    [50_000, () => assert.throws(() => query.exists(bytes, { limit: 1 }), jp.StepsUsedUp)],
+  ];
+  calls.forEach(([, call]) => call());
+  const { size } = engine;
+  for (const [count, call] of calls) {
+    for (let time = 0; time < count; time += 1) {
+      call();
+    }
+  }
+  assert.equal(engine.size, size);
 });
 
 test("a query that is refused is refused again", () => {

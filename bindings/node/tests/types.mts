@@ -12,6 +12,10 @@ for (const it of given) {
     const values: jp.Value[] = jp.values(asked, it);
     const paths: string[] = jp.paths(asked, it);
     const is: boolean = jp.exists(asked, it);
+    for (const match of jp.findIter(asked, it, { limit: 1 })) {
+      const each: jp.Match = match;
+      console.log(each);
+    }
     console.log(matches, first, values, paths, is);
   }
   const own: [jp.Match[], jp.Match | null, jp.Value[], string[], boolean] = [
@@ -31,8 +35,9 @@ const kept: [jp.Match[], jp.Match | null, jp.Value[], string[], boolean] = [
   document.exists(query),
 ];
 const many: (jp.Match[] | jp.QueryError | jp.StepsUsedUp)[] = jp.findMany(["$", query], document);
+const iterators: Iterable<jp.Match>[] = [query.findIter(document), document.findIter("$", { extended: true })];
 const texts: string[] = [jp.canonical("$"), jp.version(), `${query}`, query.text];
-console.log(kept, many, texts, jp.check("$"), jp.parse("$") instanceof jp.Query);
+console.log(kept, many, iterators, texts, jp.check("$"), jp.parse("$") instanceof jp.Query);
 
 const match = jp.findOne("$", document);
 if (match !== null) {
