@@ -57,6 +57,7 @@
 
 mod document;
 mod error;
+mod iter;
 mod nodes;
 mod numbers;
 mod queries;
@@ -66,6 +67,7 @@ mod raw;
 
 pub use document::Document;
 pub use error::{DocumentError, Error, QueryError};
+pub use iter::{FindIter, OwnedNode};
 pub use nodes::{Iter, Node, Nodes};
 pub use numbers::{DocumentKind, QueryKind};
 pub use queries::Queries;

@@ -65,6 +65,10 @@ impl Nodes {
 }
 
 impl<'n> Node<'n> {
+    pub(crate) fn new(path: &'n str, value: &'n str) -> Self {
+        Node { path, value }
+    }
+
     /// The normalized path (RFC 9535, section 2.7).
     pub fn path(&self) -> &'n str {
         self.path

@@ -2,6 +2,7 @@
 
 use crate::document::Document;
 use crate::error::Error;
+use crate::iter::{Asked, FindIter};
 use crate::nodes::Nodes;
 use crate::numbers::{form, profile, status, NO_LIMIT};
 use crate::raw::{self, Handle, Report};
@@ -10,9 +11,16 @@ use std::num::NonZeroU64;
 use std::str::FromStr;
 use std::sync::{Mutex, PoisonError, TryLockError};
 
-/// How many nodes are asked for at most.
-const ALL: u64 = 0;
-const ONE: u64 = 1;
+/// Which nodes are asked for: those behind the first `from` ones, and of these as many as `count` says, where 0 is
+/// all.
+#[derive(Clone, Copy)]
+pub(crate) struct Span {
+    pub(crate) from: u64,
+    pub(crate) count: u64,
+}
+
+const ALL: Span = Span { from: 0, count: 0 };
+const FIRST: Span = Span { from: 0, count: 1 };
 
 /// Which functions a query may call.
 #[derive(Clone, Copy, Debug, Default, PartialEq, Eq, Hash)]
@@ -157,7 +165,7 @@ impl Query {
     /// # Ok::<(), jsonpath_jp::Error>(())
     /// ```
     pub fn find_first(&self, document: &[u8]) -> Result<Nodes, Error> {
-        self.lines(form::BOTH, ONE, document).map(Nodes::of_lines)
+        self.lines(form::BOTH, FIRST, document).map(Nodes::of_lines)
     }
 
     /// The nodes that it selects in a document that is kept.
@@ -176,8 +184,25 @@ impl Query {
     ///
     /// Those of [`find_in`](Self::find_in).
     pub fn find_first_in(&self, document: &Document) -> Result<Nodes, Error> {
-        self.lines_in(form::BOTH, ONE, document)
+        self.lines_in(form::BOTH, FIRST, document)
             .map(Nodes::of_lines)
+    }
+
+    /// The nodes that it selects in a JSON text, one after another, looked for as they are asked for. The document is
+    /// read at once, and kept as long as the iterator.
+    ///
+    /// # Errors
+    ///
+    /// [`Error::Document`] where the bytes are no document, [`Error::NoMemory`] and [`Error::NoStack`]. The iterator
+    /// has the others, those of [`find_in`](Self::find_in).
+    pub fn find_iter(&self, document: &[u8]) -> Result<FindIter<'_>, Error> {
+        let document = Document::parse(document)?;
+        Ok(FindIter::new(self, Asked::Own(document)))
+    }
+
+    /// The same of a document that is kept.
+    pub fn find_iter_in<'q>(&'q self, document: &'q Document) -> FindIter<'q> {
+        FindIter::new(self, Asked::Lent(document))
     }
 
     /// Whether it selects any node in a JSON text. The evaluation stops at the first.
@@ -186,7 +211,7 @@ impl Query {
     ///
     /// Those of [`find`](Self::find).
     pub fn exists(&self, document: &[u8]) -> Result<bool, Error> {
-        self.lines(form::PATHS, ONE, document)
+        self.lines(form::PATHS, FIRST, document)
             .map(|lines| !lines.is_empty())
     }
 
@@ -196,7 +221,7 @@ impl Query {
     ///
     /// Those of [`find_in`](Self::find_in).
     pub fn exists_in(&self, document: &Document) -> Result<bool, Error> {
-        self.lines_in(form::PATHS, ONE, document)
+        self.lines_in(form::PATHS, FIRST, document)
             .map(|lines| !lines.is_empty())
     }
 
@@ -217,21 +242,21 @@ impl Query {
         self.answer(&report, text, &[])
     }
 
-    /// The lines of so many nodes in a JSON text.
-    fn lines(&self, form: u32, count: u64, document: &[u8]) -> Result<String, Error> {
+    /// The lines of the nodes asked for in a JSON text.
+    fn lines(&self, form: u32, span: Span, document: &[u8]) -> Result<String, Error> {
         let (report, text) = match self.handle.try_lock() {
-            Ok(mut query) => query.ask(document, form, count, steps(self.limit)),
+            Ok(mut query) => query.ask(document, form, span, steps(self.limit)),
             Err(TryLockError::Poisoned(query)) => {
                 query
                     .into_inner()
-                    .ask(document, form, count, steps(self.limit))
+                    .ask(document, form, span, steps(self.limit))
             }
             // Another thread asks the query, which is read anew so that none waits for it.
             Err(TryLockError::WouldBlock) => {
                 let mut query = Handle::empty();
                 let report = query.keep_query(self.text.as_bytes(), self.profile.number());
                 match report.status {
-                    status::DONE => query.ask(document, form, count, steps(self.limit)),
+                    status::DONE => query.ask(document, form, span, steps(self.limit)),
                     _ => (report, String::new()),
                 }
             }
@@ -239,13 +264,18 @@ impl Query {
         self.answer(&report, text, document)
     }
 
-    /// The lines of so many nodes in a document that is kept.
-    fn lines_in(&self, form: u32, count: u64, document: &Document) -> Result<String, Error> {
+    /// The lines of the nodes asked for in a document that is kept.
+    fn lines_in(&self, form: u32, span: Span, document: &Document) -> Result<String, Error> {
         // Each call locks a query before a document, so that none waits for another's.
         let mut query = self.handle.lock().unwrap_or_else(PoisonError::into_inner);
         let (report, text) =
-            query.ask_document(&mut document.lock(), form, count, steps(self.limit));
+            query.ask_document(&mut document.lock(), form, span, steps(self.limit));
         self.answer(&report, text, &[])
+    }
+
+    /// The lines, with paths and values, of the nodes asked for in a document that is kept.
+    pub(crate) fn both_in(&self, span: Span, document: &Document) -> Result<String, Error> {
+        self.lines_in(form::BOTH, span, document)
     }
 
     /// The text of an outcome, or the error that it stands for.

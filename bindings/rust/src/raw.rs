@@ -4,6 +4,7 @@
 //! exclusive. So nothing more is owed than that no two calls use a handle at once, which takes `&mut Handle`.
 
 use crate::numbers::{self, status};
+use crate::query::Span;
 use std::ffi::c_void;
 use std::io;
 use std::thread;
@@ -92,11 +93,11 @@ extern "C" {
     ) -> u32;
     fn jp_ask(
         query: *mut Handle, document: *const u8, document_length: usize,
-        form: u32, count: u64, limit: u64, text: *mut Text, report: *mut Report,
+        form: u32, from: u64, count: u64, limit: u64, text: *mut Text, report: *mut Report,
     ) -> u32;
     fn jp_ask_document(
         query: *mut Handle, document: *mut Handle,
-        form: u32, count: u64, limit: u64, text: *mut Text, report: *mut Report,
+        form: u32, from: u64, count: u64, limit: u64, text: *mut Text, report: *mut Report,
     ) -> u32;
     fn jp_clear(handle: *mut Handle);
 }
@@ -223,7 +224,7 @@ impl Handle {
         &mut self,
         document: &[u8],
         form: u32,
-        count: u64,
+        span: Span,
         limit: u64,
     ) -> (Report, String) {
         lent(|text, report| {
@@ -234,7 +235,8 @@ impl Handle {
                     document.as_ptr(),
                     document.len(),
                     form,
-                    count,
+                    span.from,
+                    span.count,
                     limit,
                     text,
                     report,
@@ -248,12 +250,16 @@ impl Handle {
         &mut self,
         document: &mut Handle,
         form: u32,
-        count: u64,
+        span: Span,
         limit: u64,
     ) -> (Report, String) {
         lent(|text, report| {
             // SAFETY: the two handles are not the same, and ours alone.
-            unsafe { jp_ask_document(self, document, form, count, limit, text, report) };
+            unsafe {
+                jp_ask_document(
+                    self, document, form, span.from, span.count, limit, text, report,
+                )
+            };
         })
     }
 

@@ -1,7 +1,8 @@
 //! What users of the crate see. Expected values are those of RFC 9535, or by hand.
 
 use jsonpath_jp::{
-    version, Document, DocumentKind, Error, Nodes, Profile, Queries, Query, QueryKind,
+    version, Document, DocumentKind, Error, FindIter, Nodes, OwnedNode, Profile, Queries, Query,
+    QueryKind,
 };
 use std::num::NonZeroU64;
 use std::thread;
@@ -245,6 +246,49 @@ fn the_first_node_alone() {
 /// How many steps a query needs: one for each value that is offered and for the end, a segment's selectors and
 /// two more at each value that is gone into, and each comparison. The first node comes before the end.
 #[test]
+fn one_node_after_another() {
+    let query = Query::parse("$[*]").unwrap();
+    for size in [0, 1, 2, 3, 4, 6, 7, 8, 100] {
+        let numbers: Vec<_> = (0..size).map(|number| number.to_string()).collect();
+        let text = format!("[{}]", numbers.join(","));
+        let document = Document::parse(text.as_bytes()).unwrap();
+        let expected = query.find(text.as_bytes()).unwrap();
+        for nodes in [
+            query.find_iter(text.as_bytes()).unwrap(),
+            query.find_iter_in(&document),
+        ] {
+            let nodes: Vec<_> = nodes.map(Result::unwrap).collect();
+            assert!(nodes.iter().map(OwnedNode::as_node).eq(&expected));
+        }
+    }
+    let twice = Query::parse("$[0,0]").unwrap();
+    let paths = twice
+        .find_iter(b"[7]")
+        .unwrap()
+        .map(|node| node.unwrap().path().to_owned());
+    assert_eq!(paths.collect::<Vec<_>>(), ["$[0]", "$[0]"]);
+    assert!(matches!(query.find_iter(b"[1,"), Err(Error::Document(_))));
+}
+
+#[test]
+fn the_first_of_a_million_nodes() {
+    let text = format!("[{}0]", "0,".repeat(999_999));
+    let all = Query::parse("$[*]").unwrap().with_limit(steps(1_000_000));
+    assert_eq!(
+        all.find(text.as_bytes()),
+        Err(Error::StepsUsedUp(1_000_000))
+    );
+    let few = Query::parse("$[*]").unwrap().with_limit(steps(100));
+    let mut nodes = few.find_iter(text.as_bytes()).unwrap();
+    for at in 0..15 {
+        assert_eq!(nodes.next().unwrap().unwrap().path(), format!("$[{at}]"));
+    }
+    // The pages get longer, and each has the whole limit. After an error there is no more.
+    assert_eq!(nodes.find_map(Result::err), Some(Error::StepsUsedUp(100)));
+    assert_eq!(nodes.next(), None);
+}
+
+#[test]
 fn a_limit_that_suffices_and_one_less() {
     let document = Document::parse(b"[1,2]").unwrap();
     for (text, needed, for_the_first) in [("$[*]", 7, 5), ("$..*", 9, 5), ("$[?@==2]", 9, 8)] {
@@ -292,6 +336,8 @@ fn threads() {
     is_shared::<Document>();
     is_shared::<Queries>();
     is_shared::<Nodes>();
+    is_shared::<OwnedNode>();
+    is_shared::<FindIter<'static>>();
     is_shared::<Error>();
 
     let query = Query::parse("$[*]").unwrap();

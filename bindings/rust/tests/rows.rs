@@ -1,7 +1,10 @@
 //! The rows of the standard, as they stand in jp_command's table, by the calls of this crate: each by way of the
-//! bytes, of a document that is kept, and of many queries.
+//! bytes, of a document that is kept, of many queries, and one node after another. Or those of the file that `JP_ROWS`
+//! names, as `bindings/compare --answers --hex` prints them.
 
-use jsonpath_jp::{Document, Error, Nodes, Profile, Queries, Query};
+use jsonpath_jp::{Document, Error, FindIter, Nodes, Profile, Queries, Query};
+use std::env;
+use std::fs;
 use std::path::Path;
 use std::process::Command;
 
@@ -40,6 +43,13 @@ fn row(line: &str) -> Row {
 }
 
 fn rows() -> Vec<Row> {
+    let text = env::var_os("JP_ROWS").map_or_else(rows_of_table, |file| {
+        fs::read_to_string(file).expect("a file of rows")
+    });
+    text.lines().map(row).collect()
+}
+
+fn rows_of_table() -> String {
     let script = Path::new(env!("CARGO_MANIFEST_DIR")).join("../python/tests/rows.py");
     let printed = Command::new("python3")
         .arg(script)
@@ -51,11 +61,7 @@ fn rows() -> Vec<Row> {
         "{}",
         String::from_utf8_lossy(&printed.stderr)
     );
-    String::from_utf8(printed.stdout)
-        .unwrap()
-        .lines()
-        .map(row)
-        .collect()
+    String::from_utf8(printed.stdout).unwrap()
 }
 
 /// What is given, in the words of a row.
@@ -74,6 +80,20 @@ fn told(answer: Result<Nodes, Error>) -> (&'static str, String) {
     }
 }
 
+/// The same of one node after another.
+fn told_each(nodes: Result<FindIter<'_>, Error>) -> (&'static str, String) {
+    match nodes {
+        Ok(nodes) => (
+            "Nodes",
+            nodes
+                .map(|node| node.expect("a node"))
+                .map(|node| format!("{}\t{}\n", node.path(), node.value()))
+                .collect(),
+        ),
+        Err(fault) => told(Err(fault)),
+    }
+}
+
 fn answers(row: &Row) -> Vec<(&'static str, String)> {
     let document = row.document.as_bytes();
     let query = Query::parse_with(&row.query, row.profile);
@@ -86,6 +106,7 @@ fn answers(row: &Row) -> Vec<(&'static str, String)> {
         Ok(query) => {
             let kept = Document::parse(document);
             answers.push(told(kept.and_then(|kept| query.find_in(&kept))));
+            answers.push(told_each(query.find_iter(document)));
             answers.push(told(query.find(document)));
         }
         Err(fault) => answers.push(told(Err(fault))),
