@@ -1,112 +1,168 @@
-/** Where a value stands in a document's text. */
+/** Where values stand in a document's text. */
+import { stepsOf } from "../../bindings/node/paths.mjs";
 
-/** The steps of a normalized path (RFC 9535, section 2.7): names and indexes. */
-export function stepsOf(path) {
-  const steps = [];
-  for (const [, index, name] of path.matchAll(/\[(?:(\d+)|'((?:[^'\\]|\\.)*)')\]/g)) {
-    steps.push(index === undefined ? nameOf(name) : Number(index));
+const [QUOTE, BACKSLASH, COMMA, COLON] = ['"', "\\", ",", ":"].map((mark) => mark.charCodeAt(0));
+const [OPEN_LIST, OPEN_OBJECT, CLOSE_LIST, CLOSE_OBJECT] = ["[", "{", "]", "}"].map((mark) => mark.charCodeAt(0));
+
+/** The places that are asked for at a branch, as numbers of paths, and below it by names and indexes. */
+class Branch {
+  constructor() {
+    this.asked = [];
+    this.below = null;
   }
-  return steps;
+
+  at(step) {
+    this.below ??= new Map();
+    let next = this.below.get(step);
+    if (next === undefined) {
+      next = new Branch();
+      this.below.set(step, next);
+    }
+    return next;
+  }
 }
 
-const ESCAPES = { b: "\b", t: "\t", n: "\n", f: "\f", r: "\r" };
-
-function nameOf(quoted) {
-  return quoted.replace(/\\(?:u([0-9a-f]{4})|(.))/g, (_, code, mark) =>
-    code === undefined ? (ESCAPES[mark] ?? mark) : String.fromCharCode(parseInt(code, 16)),
-  );
+function treeOf(paths) {
+  const root = new Branch();
+  paths.forEach((path, number) => {
+    stepsOf(path).reduce((branch, step) => branch.at(step), root).asked.push(number);
+  });
+  return root;
 }
 
 /** Reads along a JSON text, which is known to be one. */
 class Reader {
-  constructor(text) {
+  #blank = /[ \t\n\r]*/y;
+  #word = /[-+.\w]*/y;
+  #mark = /["[\]{}]/g;
+
+  constructor(text, at, starts, ends) {
     this.text = text;
-    this.at = 0;
+    this.at = at;
+    this.starts = starts;
+    this.ends = ends;
+  }
+
+  #pass(pattern) {
+    pattern.lastIndex = this.at;
+    pattern.test(this.text);
+    this.at = pattern.lastIndex;
   }
 
   skipBlank() {
-    while (" \t\n\r".includes(this.text[this.at] ?? "-")) {
-      this.at += 1;
+    this.#pass(this.#blank);
+  }
+
+  /** Reads past a comma, a colon or a closing mark, and the blank space around the first two; whether it is a comma. */
+  #isComma() {
+    this.skipBlank();
+    const mark = this.text.charCodeAt(this.at);
+    this.at += 1;
+    if (mark === COMMA || mark === COLON) {
+      this.skipBlank();
     }
+    return mark === COMMA;
   }
 
-  /** Reads past a mark, if it comes next, and blank space around it. */
-  takes(mark) {
-    this.skipBlank();
-    const isNext = this.text[this.at] === mark;
-    this.at += isNext ? 1 : 0;
-    this.skipBlank();
-    return isNext;
+  #skipString() {
+    let backslashes;
+    do {
+      this.at = this.text.indexOf('"', this.at + 1);
+      backslashes = 0;
+      while (this.text.charCodeAt(this.at - 1 - backslashes) === BACKSLASH) {
+        backslashes += 1;
+      }
+    } while (backslashes % 2 === 1);
+    this.at += 1;
   }
 
-  /** The string that comes next. */
-  string() {
+  #name() {
     const start = this.at;
-    this.skipString();
+    this.#skipString();
     return JSON.parse(this.text.slice(start, this.at));
-  }
-
-  skipString() {
-    this.at += 1;
-    while (this.text[this.at] !== '"') {
-      this.at += this.text[this.at] === "\\" ? 2 : 1;
-    }
-    this.at += 1;
   }
 
   /** Reads past a value. */
   skipValue() {
     let depth = 0;
     do {
-      const mark = this.text[this.at];
-      if (mark === '"') {
-        this.skipString();
-      } else {
-        depth += "[{".includes(mark) ? 1 : "]}".includes(mark) ? -1 : 0;
+      const mark = this.text.charCodeAt(this.at);
+      if (mark === QUOTE) {
+        this.#skipString();
+      } else if (mark === OPEN_LIST || mark === OPEN_OBJECT) {
+        depth += 1;
         this.at += 1;
+      } else if (mark === CLOSE_LIST || mark === CLOSE_OBJECT) {
+        depth -= 1;
+        this.at += 1;
+      } else {
+        this.#pass(this.#word);
+      }
+      if (depth > 0) {
+        this.#goToMark();
       }
     } while (depth > 0);
-    // What is left of a number, or of true, false or null.
-    while (/[\w.+-]/.test(this.text[this.at] ?? "")) {
+  }
+
+  #goToMark() {
+    this.#mark.lastIndex = this.at;
+    this.#mark.test(this.text);
+    this.at = this.#mark.lastIndex - 1;
+  }
+
+  /** Reads past a value, and notes where it stands and what is asked for in it. */
+  value(branch) {
+    const start = this.at;
+    const mark = this.text.charCodeAt(start);
+    if (branch.below === null || (mark !== OPEN_LIST && mark !== OPEN_OBJECT)) {
+      this.skipValue();
+    } else {
+      this.#parts(branch.below, mark === OPEN_OBJECT);
+    }
+    for (const number of branch.asked) {
+      this.starts[number] = start;
+      this.ends[number] = this.at;
+    }
+  }
+
+  /** Reads past the items or members. Of members with one name the last counts, which is noted after the others. */
+  #parts(below, isObject) {
+    this.at += 1;
+    this.skipBlank();
+    if (this.#isEmpty()) {
       this.at += 1;
+      return;
     }
-  }
-
-  /** Goes to the item of an index. */
-  goToItem(index) {
-    this.takes("[");
-    for (let passed = 0; passed < index; passed += 1) {
-      this.skipValue();
-      this.takes(",");
-    }
-  }
-
-  /** Goes to the value of the last member of a name, which is the one that counts. */
-  goToMember(name) {
-    let found = this.at;
-    this.takes("{");
+    let index = 0;
     do {
-      const isNamed = this.string() === name;
-      this.takes(":");
-      found = isNamed ? this.at : found;
-      this.skipValue();
-    } while (this.takes(","));
-    this.at = found;
+      const step = isObject ? this.#name() : index;
+      if (isObject) {
+        this.#isComma();
+      }
+      index += 1;
+      const branch = below.get(step);
+      if (branch === undefined) {
+        this.skipValue();
+      } else {
+        this.value(branch);
+      }
+    } while (this.#isComma());
+  }
+
+  #isEmpty() {
+    const mark = this.text.charCodeAt(this.at);
+    return mark === CLOSE_LIST || mark === CLOSE_OBJECT;
   }
 }
 
-/** The start and the end, as indexes of a document's text, of the value at a normalized path. */
-export function placeOf(text, path) {
-  const reader = new Reader(text);
+/**
+ * The starts and the ends, as indexes of a text, of the values at normalized paths (RFC 9535, section 2.7) of the
+ * document that begins at an index of it, blank space before it left out.
+ */
+export function placesOf(text, paths, from = 0) {
+  const [starts, ends] = [new Uint32Array(paths.length), new Uint32Array(paths.length)];
+  const reader = new Reader(text, from, starts, ends);
   reader.skipBlank();
-  for (const step of stepsOf(path)) {
-    if (typeof step === "number") {
-      reader.goToItem(step);
-    } else {
-      reader.goToMember(step);
-    }
-  }
-  const start = reader.at;
-  reader.skipValue();
-  return { start, end: reader.at };
+  reader.value(treeOf(paths));
+  return { starts, ends };
 }

@@ -1,68 +1,29 @@
 /** Asks the engine, away from the page, which so never waits for an answer. */
 import { Engine } from "../../bindings/node/engine.mjs";
-import {
-  BOTH,
-  DOCUMENT_REFUSED,
-  EXTENDED,
-  NO_MEMORY,
-  PATHS,
-  QUERY_REFUSED,
-  STANDARD,
-  VALUES,
-} from "../../bindings/node/numbers.mjs";
+import { EXTENDED, STANDARD } from "../../bindings/node/numbers.mjs";
 import { bytesOf, textOf } from "../../bindings/node/texts.mjs";
+import { answerByLines, answerOf, refusal } from "./answers.mjs";
+import { written } from "./formats.mjs";
+import { placesOf } from "./places.mjs";
 
-const FORMS = { values: VALUES, paths: PATHS, both: BOTH };
 const PROFILES = { standard: STANDARD, extended: EXTENDED };
-const ROWS = 1000;
-const LONGEST_TEXT = 2000;
-const NEWLINE = 10;
+// In characters: what is shown of a path and of a value.
+const LONGEST_TEXT = 10_000;
+// Of more nodes only those that are looked at are placed.
+const MOST_PLACED = 300_000;
 // In milliseconds: a call that took less is made again, since the first one of a kind is also compiled.
 const SHORT = 100;
 
 let engine;
-let documentBytes = new Uint8Array();
-
-/** The first rows of lines, and how many lines there are. */
-function rowsOf(lines, form) {
-  const rows = [];
-  let count = 0;
-  for (let start = 0, end; (end = lines.indexOf(NEWLINE, start)) >= 0; start = end + 1) {
-    count += 1;
-    if (count <= ROWS) {
-      rows.push(rowOf(textOf(lines.subarray(start, end)), form));
-    }
-  }
-  return { rows, count };
-}
-
-function rowOf(line, form) {
-  if (form !== "both") {
-    return { [form === "paths" ? "path" : "value"]: cut(line) };
-  }
-  const tab = line.indexOf("\t");
-  return { path: cut(line.slice(0, tab)), value: cut(line.slice(tab + 1)) };
-}
+let text = "";
+let bytes = new Uint8Array();
+// The answer that was given last, and the numbers of its nodes in the document's order once they are placed.
+let answer = null;
+let byPlace = null;
 
 /** The start of a text, and how many of its characters are left out. */
-function cut(text) {
-  return { text: text.slice(0, LONGEST_TEXT), left: Math.max(0, text.length - LONGEST_TEXT) };
-}
-
-/** Why there is no text, or null: of a query with the sentence and what to try, of a document with the place too. */
-function refusal({ status, kind, place, text }, query, profile) {
-  // A further call writes where this one did.
-  const path = status === DOCUMENT_REFUSED ? textOf(text) : "";
-  switch (status) {
-    case QUERY_REFUSED:
-      return { query: { kind: engine.kindName(status, kind), place, ...engine.explain(query, profile) } };
-    case DOCUMENT_REFUSED:
-      return { document: { kind: engine.kindName(status, kind), path, ...engine.explainDocument(documentBytes) } };
-    case NO_MEMORY:
-      return { fault: "The memory that this page may use did not suffice." };
-    default:
-      return null;
-  }
+function cut(whole) {
+  return { text: whole.slice(0, LONGEST_TEXT), left: Math.max(0, whole.length - LONGEST_TEXT) };
 }
 
 /** What a call answers, and how many milliseconds it took. */
@@ -73,29 +34,94 @@ function timed(call) {
 }
 
 /** The canonical text, and the nodes with the time that they took, or why there are none. */
-function answer({ query, form, profile: name }) {
-  const text = bytesOf(query);
-  const profile = PROFILES[name];
-  const canonical = engine.canonical(text, profile);
-  const accepted = textOf(canonical.text);
-  const refused = refusal(canonical, text, profile);
-  if (refused) {
-    return refused;
+function ask({ module, document: other, byLines, query, profile: name }) {
+  engine ??= new Engine(module);
+  if (other !== undefined) {
+    text = other;
+    bytes = bytesOf(other);
   }
-  const evaluate = () => engine.ask({ bytes: text, profile }, documentBytes, FORMS[form]);
-  const first = timed(evaluate);
-  const { answered, time } = first.time < SHORT ? timed(evaluate) : first;
-  return { canonical: accepted, time, ...(refusal(answered, text, profile) ?? rowsOf(answered.text, form)) };
+  answer = byPlace = null;
+  const asked = { bytes: bytesOf(query), profile: PROFILES[name] };
+  const canonical = engine.canonical(asked.bytes, asked.profile);
+  const accepted = textOf(canonical.text);
+  const refused = refusal(engine, canonical, asked.bytes, asked.profile, bytes);
+  const told = { canonical: accepted, version: engine.version() };
+  if (refused) {
+    return { ...refused, version: told.version };
+  }
+  return isBlank(text) ? { ...told, isWithoutDocument: true } : { ...told, ...evaluated(asked, byLines) };
 }
 
-/** Answers a question; the module comes with the first, and the document where it is another one. */
-onmessage = ({ data }) => {
+/** Whether a text has nothing but what JSON takes for blank. */
+function isBlank(it) {
+  return /^[ \t\n\r]*$/.test(it.slice(0, 1000)) && /^[ \t\n\r]*$/.test(it);
+}
+
+function evaluated(asked, byLines) {
+  const evaluate = () => (byLines ? answerByLines : answerOf)(engine, asked, text, bytes);
+  const first = timed(evaluate);
+  const { answered, time } = first.time < SHORT ? timed(evaluate) : first;
+  if (!answered.answer) {
+    return answered;
+  }
+  answer = answered.answer;
+  const { count, refused = [], refusedCount = 0 } = answer;
+  return { count, time, refused, refusedCount };
+}
+
+/** The numbers of nodes in an order, from one place of it to another. */
+function numbersOf(order, from, to) {
+  return Array.from({ length: to - from }, (_, place) => numberAt(order, from + place));
+}
+
+function numberAt(order, place) {
+  return order === "document" && byPlace ? byPlace[place] : place;
+}
+
+function nodes({ order, from, to }) {
+  const numbers = numbersOf(order, from, to);
+  return numbers.map((number) => {
+    const { line, path, value } = answer.node(number);
+    return { number, line, path: cut(path), value: cut(value) };
+  });
+}
+
+/** Where all values stand, and the numbers of the nodes as their values begin, outer ones first; none of too many. */
+function places() {
+  if (answer.count > MOST_PLACED) {
+    return {};
+  }
+  const found = answer.places(numbersOf("nodelist", 0, answer.count));
+  const { starts, ends } = found;
+  byPlace = Uint32Array.from(starts.keys()).sort((one, other) => starts[one] - starts[other] || ends[other] - ends[one] || one - other);
+  return { ...found, byPlace };
+}
+
+/** Where the value of a node stands, by its number, or the value at a path. */
+function place({ number, path }) {
+  const { starts, ends } = path === undefined ? answer.places([number]) : placesOf(text, [path]);
+  return { start: starts[0], end: ends[0] };
+}
+
+/** The order in which a form of copy has the nodes. */
+function* numbersIn(order) {
+  for (let place = 0; place < answer.count; place += 1) {
+    yield numberAt(order, place);
+  }
+}
+
+const CALLS = {
+  ask,
+  nodes,
+  places,
+  place,
+  written: ({ order, format, form }) => written(answer, numbersIn(order), format, form),
+};
+
+/** Answers a question, or what is asked about the answer that was given last. */
+onmessage = ({ data: { kind, ...words } }) => {
   try {
-    engine ??= new Engine(data.module);
-    if (data.document !== undefined) {
-      documentBytes = bytesOf(data.document);
-    }
-    postMessage({ ...answer(data), version: engine.version() });
+    postMessage(CALLS[kind](words));
   } catch (fault) {
     postMessage({ fault: `The engine did not answer: ${fault.message}` });
   }

@@ -68,13 +68,21 @@ export class Browser {
     return new Promise((resolve, reject) => this.#waiting.set(id, { resolve, reject }));
   }
 
+  /** Lets pages do what browsers ask users for, as "clipboardReadWrite". */
+  allow(...permissions) {
+    return this.#call("Browser.grantPermissions", { permissions });
+  }
+
   /** Calls the page that is open. */
   send(method, params = {}) {
     return this.#call(method, params, this.#session);
   }
 
-  /** Opens a page of this width in a scheme of colors, "light" or "dark". */
-  async open(address, { width = 1280, height = 900, scheme = "light" } = {}) {
+  /**
+   * Opens a page of this width in a scheme of colors, "light" or "dark", where `motion` may be wanted "reduce"d. A
+   * script `before` runs in it first.
+   */
+  async open(address, { width = 1280, height = 900, scheme = "light", motion = "no-preference", before = "" } = {}) {
     if (this.#target) {
       await this.#call("Target.closeTarget", { targetId: this.#target });
     }
@@ -85,7 +93,9 @@ export class Browser {
     }
     this.#window = { width, height };
     await this.#resize(this.#window);
-    await this.send("Emulation.setEmulatedMedia", { features: [{ name: "prefers-color-scheme", value: scheme }] });
+    const features = Object.entries({ "prefers-color-scheme": scheme, "prefers-reduced-motion": motion });
+    await this.send("Emulation.setEmulatedMedia", { features: features.map(([name, value]) => ({ name, value })) });
+    await this.send("Page.addScriptToEvaluateOnNewDocument", { source: before });
     await this.send("Page.navigate", { url: address });
   }
 

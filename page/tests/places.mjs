@@ -1,18 +1,21 @@
 /**
- * Tests where the page marks a value: at each path of each document of the rows of the standard, which
+ * Tests where the page marks values: at each path of each document of the rows of the standard, which
  * stand on standard input as bindings/python/tests/rows.py prints them, stands what the engine has there.
  */
 import assert from "node:assert/strict";
 import { readFileSync } from "node:fs";
 import * as jp from "../../bindings/node/jp.mjs";
-import { placeOf } from "../src/places.mjs";
+import { indented } from "../src/indenting.mjs";
+import { placesOf } from "../src/places.mjs";
 
 /** The documents of the rows, and some with what those have not. */
 function documents() {
   const rows = readFileSync(0, "utf8").split("\n").slice(0, -1).map((line) => JSON.parse(line));
   const others = [
     ' \n{ "a" : 1 , "a" : [ 2 , { "a" : -3 } ] , "\\u0061" : { "b" : [ ] } } ',
+    '{"a":{"b":1,"c":[2]},"a":{"b":[3,{}],"c":4},"d":"\\\\","e":"\\"]"}',
     String.raw`{"\u000b'\\\n":["]}\"",{}],"é😀":[[true],[null,false]],"[0]":"['x']"}`,
+    `[${"[".repeat(60)}"x"${"]".repeat(60)},{"a":[18446744073709551615,-9223372036854775808]}]`,
   ];
   return new Set([...rows.map(([document]) => document), ...others]);
 }
@@ -28,12 +31,24 @@ function nodesOf(document) {
 
 let count = 0;
 for (const document of documents()) {
-  for (const { path, text } of nodesOf(document)) {
-    const { start, end } = placeOf(document, path);
-    assert.equal(jp.find("$", document.slice(start, end))[0].text, text, `${path} of ${document}`);
-    assert.equal(document.slice(start, end).trim(), document.slice(start, end));
-    count += 1;
+  const nodes = nodesOf(document);
+  if (nodes.length === 0) {
+    continue;
   }
+  const before = `[1]\n${document}`;
+  const { starts, ends } = placesOf(document, nodes.map(({ path }) => path));
+  const later = placesOf(before, nodes.map(({ path }) => path), "[1]\n".length);
+  nodes.forEach(({ path, text }, number) => {
+    const value = document.slice(starts[number], ends[number]);
+    assert.equal(jp.find("$", value)[0].text, text, `${path} of ${document}`);
+    assert.equal(value.trim(), value);
+    assert.equal(before.slice(later.starts[number], later.ends[number]), value);
+    const alone = placesOf(document, [path]);
+    assert.deepEqual([alone.starts[0], alone.ends[0]], [starts[number], ends[number]]);
+    assert.equal(jp.find("$", indented(value))[0].text, text);
+    count += 1;
+  });
 }
 assert.ok(count > 300);
-console.log(`${count} values stand where the page marks them`);
+assert.equal(indented('{"a":[],"b":[1,{"c":" , "}]}'), '{\n  "a": [],\n  "b": [\n    1,\n    {\n      "c": " , "\n    }\n  ]\n}');
+console.log(`${count} values stand where the page marks them, and are the same when they are indented`);

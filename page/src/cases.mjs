@@ -1,0 +1,82 @@
+/** Cases: a query, a document and how they are asked. They stand in links, are kept in the tab, and come back. */
+
+/** In characters: what a link may hold of a document, and what the tab keeps of one. */
+export const LONGEST_IN_LINK = 20_000;
+const LONGEST_KEPT = 2_000_000;
+const MOST_KEPT_BACK = 20;
+
+/** A case as the fragment of an address. What a new page has is left out, and a document that is too long. */
+export function fragmentOf({ query, document: text, profile, byLines }) {
+  const words = new URLSearchParams({ q: query });
+  if (text.length <= LONGEST_IN_LINK) {
+    words.set("d", text);
+  }
+  if (profile === "extended") {
+    words.set("p", profile);
+  }
+  if (byLines) {
+    words.set("l", "1");
+  }
+  return `#${words}`;
+}
+
+/** The case in a fragment, or null if it has none; `document` is null where the link has none. */
+export function caseIn(fragment) {
+  const words = new URLSearchParams(fragment.slice(1));
+  if (!words.has("q") && !words.has("d")) {
+    return null;
+  }
+  const profile = words.get("p") === "extended" ? "extended" : "standard";
+  return { query: words.get("q") ?? "$", document: words.get("d"), profile, byLines: words.get("l") === "1" };
+}
+
+/** Keeps a case with this entry of the tab's history, where a reload finds it, and takes any out of the address. */
+export function keepInTab(it) {
+  const text = it.document.length <= LONGEST_KEPT ? it.document : null;
+  history.replaceState({ kept: { ...it, document: text } }, "", location.pathname + location.search);
+}
+
+/** The case that the tab has kept, or null. */
+export function keptInTab() {
+  return history.state?.kept ?? null;
+}
+
+/** Whether two cases are the same. */
+export function isSame(one, other) {
+  return ["query", "document", "profile", "byLines"].every((name) => one[name] === other[name]);
+}
+
+/** What was here before something else was put in its place: it comes back in a circle, so nothing is lost. */
+export class Before {
+  #cases = [];
+  #put = null;
+
+  get isEmpty() {
+    return this.#cases.length === 0;
+  }
+
+  /** Remembers a case that another one replaces, unless the other came from the page itself and is unchanged. */
+  replace(old, next, isOwn) {
+    this.#remember(old);
+    this.#put = isOwn ? next : null;
+  }
+
+  /** The case that was replaced last, in whose place `now` is remembered. */
+  bringBack(now) {
+    const last = this.#cases.pop();
+    if (this.#put === null || !isSame(this.#put, now)) {
+      this.#cases.unshift(now);
+    }
+    this.#put = null;
+    return last;
+  }
+
+  #remember(old) {
+    const isOwn = this.#put !== null && isSame(this.#put, old);
+    const isBlank = old.query.trim() === "" && old.document.trim() === "";
+    if (!isOwn && !isBlank && !this.#cases.some((it) => isSame(it, old))) {
+      this.#cases.push(old);
+      this.#cases.splice(0, this.#cases.length - MOST_KEPT_BACK);
+    }
+  }
+}

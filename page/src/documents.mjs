@@ -1,0 +1,194 @@
+/** The document: its editor, which shows a part of a long one, and what the engine says of it. */
+import { setRefused } from "./editors.mjs";
+import { counted, made, madeButton, spelled } from "./elements.mjs";
+
+// In characters: what the editor holds whole, in all and in a line; and what it shows of a longer one.
+const LONGEST = 3_000_000;
+const LONGEST_LINE = 20_000;
+const PART = 10_000;
+// With more lines than these, the editor looks for no ends of brackets to fold.
+const MOST_FOLDED = 20_000;
+// In bytes: what is put in line by line is a file with such an ending.
+const LINES_FILE = /\.(?:jsonl|ndjson)$/i;
+
+function hasLongLine(text) {
+  for (let start = 0, end; start < text.length; start = end + 1) {
+    end = text.indexOf("\n", start);
+    end = end < 0 ? text.length : end;
+    if (end - start > LONGEST_LINE) {
+      return true;
+    }
+  }
+  return false;
+}
+
+function isLong(text) {
+  return text.length > LONGEST || hasLongLine(text);
+}
+
+/** How many newlines a text has before an index. */
+function linesBefore(text, index) {
+  let count = 0;
+  for (let at = text.indexOf("\n"); at >= 0 && at < index; at = text.indexOf("\n", at + 1)) {
+    count += 1;
+  }
+  return count;
+}
+
+export class DocumentBox {
+  #editor;
+  #parts;
+  #replace;
+  #marks = [];
+  #long = null;
+  #start = 0;
+  /** Called where another part of a long document is shown. */
+  partShown = () => {};
+
+  /** `parts` are the elements around the editor; `replace` takes a document that comes in place of this one. */
+  constructor(editor, parts, replace) {
+    this.#editor = editor;
+    this.#parts = parts;
+    this.#replace = replace;
+    editor.on("beforeChange", (_, change) => this.#takeLong(change));
+    editor.on("drop", (_, event) => this.#drop(event));
+    editor.on("paste", (_, event) => this.#replaceLong(event));
+    editor.on("changes", () => this.#foldWhereShort());
+    parts.earlier.addEventListener("click", () => this.showFrom(Math.max(0, this.#start - PART)));
+    parts.later.addEventListener("click", () => this.showFrom(this.#start + PART));
+  }
+
+  get text() {
+    return this.#long ?? this.#editor.getValue();
+  }
+
+  /** What the editor shows: the index of its first character in the document. */
+  get start() {
+    return this.#start;
+  }
+
+  get isLong() {
+    return this.#long !== null;
+  }
+
+  put(text) {
+    // The editor reads each end of a line as a newline.
+    const whole = text.includes("\r") ? text.replace(/\r\n?/g, "\n") : text;
+    this.#long = isLong(whole) ? whole : null;
+    this.#parts.long.hidden = this.#long === null;
+    this.#editor.setOption("readOnly", this.#long !== null);
+    if (this.#long === null) {
+      this.#start = 0;
+      this.#editor.setOption("firstLineNumber", 1);
+      this.#editor.setValue(whole);
+    } else {
+      this.showFrom(0);
+    }
+  }
+
+  /** Shows the part of a long document from an index on, and where the part begins. */
+  showFrom(start) {
+    if (this.#long === null || start >= this.#long.length) {
+      return;
+    }
+    this.#start = start;
+    const end = Math.min(this.#long.length, start + PART);
+    this.#editor.setOption("firstLineNumber", linesBefore(this.#long, start) + 1);
+    this.#editor.setValue(this.#long.slice(start, end));
+    const [all, first, last] = [this.#long.length, start + 1, end].map(spelled);
+    this.#parts.long.lastElementChild.textContent = `${all} characters; here are those from ${first} to ${last}.`;
+    this.#parts.earlier.disabled = start === 0;
+    this.#parts.later.disabled = end === this.#long.length;
+    this.partShown();
+  }
+
+  /** Brings the characters between two indexes into sight, and puts the cursor before the first. */
+  reveal(start, end) {
+    if (this.#long !== null && (start < this.#start || Math.min(end, start + 100) > this.#start + PART)) {
+      this.showFrom(Math.max(0, start - PART / 10));
+    }
+    const [from, to] = [start, Math.min(end, start + PART / 2)].map((it) => this.#editor.posFromIndex(it - this.#start));
+    this.#unfold(from);
+    this.#editor.setCursor(from, null, { scroll: false });
+    this.#editor.scrollIntoView({ from, to: to.line - from.line > 10 ? from : to }, 40);
+  }
+
+  #unfold(position) {
+    this.#editor.findMarksAt(position).forEach((mark) => mark.__isFold && mark.clear());
+  }
+
+  async takeFile(file) {
+    this.#replace({ document: await file.text(), byLines: LINES_FILE.test(file.name) });
+  }
+
+  /** Takes a text that is put in where it makes the document long. */
+  #takeLong(change) {
+    if (change.origin !== "paste" && change.origin !== "drop") {
+      return;
+    }
+    const added = change.text.join("\n");
+    if (isLong(added) || this.#editor.getValue().length + added.length > LONGEST) {
+      change.cancel();
+      const whole = this.#editor.getValue();
+      const [from, to] = [change.from, change.to].map((it) => this.#editor.indexFromPos(it));
+      setTimeout(() => this.#replace({ document: whole.slice(0, from) + added + whole.slice(to) }));
+    }
+  }
+
+  /** Takes a text that is pasted over a part of a long document, which can't be changed, in place of the whole. */
+  #replaceLong(event) {
+    if (this.#long !== null) {
+      event.preventDefault();
+      this.#replace({ document: event.clipboardData.getData("text/plain") });
+    }
+  }
+
+  /** Marks each place that is refused, or the character before one at the end, of a document that is here whole. */
+  #mark(refused) {
+    this.#marks.splice(0).forEach((mark) => mark.clear());
+    for (const { line, column } of this.#long === null ? refused : []) {
+      const characters = [...(this.#editor.getLine(line - 1) ?? "")].slice(0, column);
+      const to = characters.join("").length;
+      const from = to - (characters.at(-1) ?? "").length;
+      const [start, end] = [from, to].map((ch) => ({ line: line - 1, ch }));
+      this.#marks.push(this.#editor.markText(start, end, { className: "refused-here" }));
+    }
+  }
+
+  #drop(event) {
+    const [file] = event.dataTransfer.files;
+    if (file) {
+      event.preventDefault();
+      this.takeFile(file);
+    }
+  }
+
+  #foldWhereShort() {
+    const isShort = this.#editor.lineCount() <= MOST_FOLDED;
+    if (isShort !== Boolean(this.#editor.getOption("foldGutter"))) {
+      this.#editor.setOption("foldGutter", isShort);
+    }
+  }
+
+  /** Shows why the document is refused, or its lines, and `go` to a path in it. */
+  show({ document: refused, refused: lines = [], refusedCount = 0 }, go) {
+    const isRefused = Boolean(refused) || refusedCount > 0;
+    setRefused(this.#editor, isRefused);
+    this.#parts.stepping.hidden = Boolean(refused);
+    this.#mark(refused ? [refused] : lines);
+    this.#parts.outcome.replaceChildren(...(refused ? [refusal(refused, `in line ${refused.line}, `, go)] : []));
+    if (refusedCount > 0) {
+      const list = lines.map((it) => made("li", "", refusal(it, `in line ${it.line}, `)));
+      const summary = made("summary", "", `${counted(refusedCount, "line is", "lines are")} refused`);
+      this.#parts.outcome.append(made("details", "wrong", summary, made("ol", "", ...list)));
+    }
+  }
+}
+
+function refusal({ kind, column, sentence, path }, place, go) {
+  const words = made("p", "wrong", made("strong", "", `${kind} ${place}column ${column}: `), sentence);
+  if (path) {
+    words.append(" ", go ? madeButton("code link", path, () => go(path)) : made("code", "", path));
+  }
+  return words;
+}

@@ -1,0 +1,156 @@
+/** Tests of the document: its editor, how it is refused, long ones, and one document a line. */
+import assert from "node:assert/strict";
+import {
+  STORE, answered, becomes, browser, byProgram, click, countOf, editor, listed, marked, open, openFile, press, textOf,
+  textsOf, type,
+} from "./shown.mjs";
+
+const LINES = '{"a":1}\n\n{"a":[2,{"a":3}]}\n{"a":2.5}\n[1,]\n{"a":4}';
+
+async function hasAnEditor() {
+  await open({ q: "$", d: '{\n  "a": {\n    "b": [true, 1]\n  }\n}' });
+  assert.deepEqual(await textsOf("#document .CodeMirror-code .CodeMirror-linenumber"), ["1", "2", "3", "4", "5"]);
+  assert.deepEqual(await textsOf("#document .cm-property"), ['"a"', '"b"']);
+  assert.deepEqual(await textsOf("#document .cm-atom"), ["true"]);
+  assert.equal(await countOf("#document .CodeMirror-foldgutter-open"), 2);
+  await editor("document", "setCursor(1, 0)");
+  await editor("document", "focus()");
+  await press(".", "Control");
+  assert.equal(await countOf("#document .CodeMirror-foldmarker"), 1);
+  assert.deepEqual(await textsOf("#document .CodeMirror-code .CodeMirror-linenumber"), ["1", "2", "5"]);
+  await press(".", "Control");
+  assert.equal(await countOf("#document .CodeMirror-foldmarker"), 0);
+}
+
+async function showsRefusedDocuments() {
+  const fraction = "A number with a fraction or an exponent is no whole number.";
+  for (const [document, place, sentence, path, at] of [
+    ['{"a":[0,{"b":2.5}]}', "line 1, column 14", fraction, "$['a'][1]['b']", ["2"]],
+    ['["é",\n 2,]', "line 2, column 4", "No comma may come before a closing bracket.", null, ["]"]],
+  ]) {
+    await open({ q: "$.a", d: document });
+    const kind = byProgram("eval", "$.a", document).fault.replace("document refused: ", "");
+    const words = `${kind} in ${place}: ${sentence}${path === null ? "" : ` ${path}`}`;
+    assert.equal(await textOf("#document-outcome .wrong"), words);
+    assert.equal(await textOf("#document-outcome button"), path);
+    assert.deepEqual(await marked("document", "refused-here"), at);
+  }
+  await open({ q: "$.a", d: '{"a":[0,{"b":2.5}]}' });
+  await click("#document-outcome button");
+  await becomes(() => marked("document", "current"), ["2.5"]);
+}
+
+async function indents() {
+  await open({ q: "$.b", d: '{"a":[18446744073709551615,[]],"b":"x, y"}' });
+  await click("#indent");
+  await answered();
+  assert.equal(await editor("document", "getValue()"), '{\n  "a": [\n    18446744073709551615,\n    []\n  ],\n  "b": "x, y"\n}');
+  assert.equal(await listed(), "$['b']\t\"x, y\"\n");
+}
+
+/** A large document, and a query that would take minutes. */
+async function goesOnMeanwhile() {
+  const items = JSON.stringify(Array.from({ length: 200_000 }, (_, index) => ({ id: index })), null, 1);
+  await open({ q: "$[*].id", d: "[]" });
+  await openFile("document.json", items);
+  await answered();
+  assert.match(await textOf("#count"), /^200,000 nodes in .* ms$/);
+  assert.equal(await countOf("#nodes li"), 100);
+  await click('[data-to="last"]');
+  await becomes(async () => (await textsOf("#nodes .path")).at(-1), "$[199999]['id']");
+  assert.equal(await textOf("#windows span"), "199,901 to 200,000 of 200,000");
+  await browser.value('document.querySelectorAll("#nodes button")[99].click()');
+  await becomes(() => marked("document", "current"), ["199999"]);
+  assert.ok(await browser.value(`(() => {
+    const { top, bottom } = document.querySelector("#document .current").getBoundingClientRect();
+    const around = document.querySelector("#document").getBoundingClientRect();
+    return top > around.top && bottom < around.bottom;
+  })()`));
+  // The editor draws what is in sight.
+  assert.ok((await countOf("#document .CodeMirror-line")) < 200);
+  await type("query", `$${`[${Array(99).fill("*")}]`.repeat(2)}.x`);
+  await browser.value("new Promise((resolve) => setTimeout(resolve, 1500))");
+  assert.equal(await browser.value('document.querySelector("#nodes").ariaBusy'), "true");
+  assert.equal(await textOf("#count"), "Working …");
+  await type("query", "$[7]");
+  await answered();
+  assert.equal(await listed(), '$[7]\t{"id":7}\n');
+}
+
+async function stops() {
+  await open({ q: "$", d: JSON.stringify(Array.from({ length: 4000 }, (_, index) => [index])) });
+  const long = `$${`[${Array(99).fill("*")}]`.repeat(2)}.x`;
+  for (const stop of [() => click("#stop"), () => press("Escape")]) {
+    await type("query", long);
+    await browser.until('!document.querySelector("#stop").disabled');
+    await stop();
+    await answered();
+    assert.equal(await textOf("#count"), "Stopped.");
+    assert.equal(await browser.value('document.querySelector("#stop").disabled'), true);
+    await type("query", "$[3]");
+    await answered();
+    assert.equal(await listed(), "$[3]\t[3]\n");
+  }
+}
+
+/** A file of one line is too long for the editor, which shows a part of it. */
+async function showsPartsOfLongDocuments() {
+  const text = JSON.stringify(Array.from({ length: 300_000 }, (_, index) => ({ id: `é${index}` })));
+  await open({ q: "$[299999].id", d: "[]" });
+  await openFile("document.json", text);
+  await answered();
+  assert.equal(await listed(), "$[299999]['id']\t\"é299999\"\n");
+  assert.match(await textOf("#long"), new RegExp(`${text.length.toLocaleString("en")} characters; here are those from 1 to 10,000`));
+  await click("#nodes .path");
+  await becomes(() => marked("document", "current"), ['"é299999"']);
+  await click("#earlier");
+  assert.equal((await editor("document", "getValue()")).length, 10_000);
+  await click("#empty");
+  await type("document", "[5]");
+  await type("query", "$[0]");
+  await answered();
+  assert.equal(await listed(), "$[0]\t5\n");
+  assert.equal(await browser.value('document.getElementById("long").hidden'), true);
+}
+
+async function readsJsonLines() {
+  await open({ q: "$..a", d: "[]" });
+  await openFile("records.jsonl", LINES);
+  await answered();
+  assert.equal(await browser.value('document.getElementById("lines").checked'), true);
+  const items = await textsOf("#nodes li > .quiet, #nodes .path");
+  // By hand: of lines 1, 3 and 6, since line 2 is blank and lines 4 and 5 are refused.
+  assert.deepEqual(items, ["line 1", "$['a']", "line 3", "$['a']", "line 3", "$['a'][1]['a']", "line 6", "$['a']"]);
+  assert.equal(await textOf("#document-outcome summary"), "2 lines are refused");
+  assert.match((await textsOf("#document-outcome li"))[0], /^NotWhole in line 4, column 6: .* \$\['a'\]$/);
+  assert.match((await textsOf("#document-outcome li"))[1], /^NotJson in line 5, column 4: No comma may come before a closing bracket/);
+  assert.deepEqual(await marked("document", "selected"), ["1", '[2,{"a":3}]', "3", "4"]);
+  await browser.value('document.querySelectorAll("#nodes .path")[2].click()');
+  await becomes(() => marked("document", "current"), ["3"]);
+  await click("#lines");
+  await answered();
+  // As one document it goes wrong behind its first line.
+  assert.match(await textOf("#document-outcome"), /^NotJson in line 3, column 1: /);
+}
+
+async function takesWhatIsDropped() {
+  await open({ q: "$.b[0].p", d: "[]" });
+  await browser.value(`(() => {
+    const data = new DataTransfer();
+    data.items.add(new File([${JSON.stringify(STORE)}], "store.json"));
+    const event = new DragEvent("drop", { dataTransfer: data, bubbles: true, cancelable: true });
+    document.querySelector("#document .CodeMirror-scroll").dispatchEvent(event);
+  })()`);
+  await becomes(listed, "$['b'][0]['p']\t8\n");
+}
+
+export const tests = [
+  hasAnEditor,
+  showsRefusedDocuments,
+  indents,
+  goesOnMeanwhile,
+  stops,
+  showsPartsOfLongDocuments,
+  readsJsonLines,
+  takesWhatIsDropped,
+];

@@ -1,0 +1,168 @@
+/** Tests of how the page looks: its names, contrast, widths, print and motion, and in browsers that lack something. */
+import assert from "node:assert/strict";
+import { join } from "node:path";
+import { PAGE, STORE, answered, becomes, browser, click, countOf, editor, listed, open, textOf, type } from "./shown.mjs";
+
+const WINDOWS = [360, 800, 1280].flatMap((width) => ["light", "dark"].map((scheme) => ({ width, height: 800, scheme })));
+const [, , , pictures] = process.argv;
+
+/** What is said with less contrast than 4.5 (WCAG 2.2, success criterion 1.4.3). What can't be pressed is left out. */
+const FAINT = `(() => {
+  const canvas = document.createElement("canvas").getContext("2d", { willReadFrequently: true });
+  const channels = (color) => {
+    canvas.clearRect(0, 0, 1, 1);
+    canvas.fillStyle = color;
+    canvas.fillRect(0, 0, 1, 1);
+    return [...canvas.getImageData(0, 0, 1, 1).data];
+  };
+  const light = (color) => {
+    const [red, green, blue] = channels(color).map((it) => (it / 255 <= 0.04045 ? it / 255 / 12.92 : ((it / 255 + 0.055) / 1.055) ** 2.4));
+    return 0.2126 * red + 0.7152 * green + 0.0722 * blue;
+  };
+  const behind = (element) => {
+    for (let it = element; it; it = it.parentElement) {
+      const color = getComputedStyle(it).backgroundColor;
+      if (channels(color)[3] === 255) return color;
+    }
+    return getComputedStyle(document.body).backgroundColor;
+  };
+  const texts = document.createTreeWalker(document.body, NodeFilter.SHOW_TEXT);
+  const found = [];
+  for (let text; (text = texts.nextNode()); ) {
+    const element = text.parentElement;
+    if (!text.data.trim() || element.closest("script, :disabled, .unseen") || !element.checkVisibility()) continue;
+    const [one, other] = [getComputedStyle(element).color, behind(element)].map(light).sort((a, b) => b - a);
+    const contrast = (one + 0.05) / (other + 0.05);
+    if (contrast < 4.5) found.push(text.data.trim().slice(0, 40) + " " + contrast.toFixed(2));
+  }
+  return found;
+})()`;
+
+async function isWhole(name, { width, scheme }) {
+  const [wanted, had] = await browser.value(`(() => {
+    const { scrollWidth, clientWidth } = document.documentElement;
+    return [scrollWidth, clientWidth];
+  })()`);
+  assert.ok(wanted <= had, `${name} at ${width}: ${wanted} pixels in ${had}`);
+  assert.deepEqual(await browser.value(FAINT), [], `${name} at ${width}, ${scheme}`);
+  if (pictures) {
+    await browser.picture(join(pictures, `${name}-${width}-${scheme}.png`));
+  }
+}
+
+async function isWholeInEachWindow() {
+  for (const window of WINDOWS) {
+    await open(null, window);
+    await click("#next");
+    await becomes(() => countOf("#document .current"), 1);
+    await isWhole("nodes", window);
+    await browser.value('document.querySelectorAll("details").forEach((it) => (it.open = true))');
+    await isWhole("reference", window);
+    await open({ q: `$['${"é😀".repeat(40)}'][01]`, d: STORE }, window);
+    await isWhole("refused-query", window);
+    await open({ q: "$", d: `{"${"long".repeat(40)}":[0,2.5]}` }, window);
+    await isWhole("refused-document", window);
+    await open({ q: "", d: "" }, window);
+    await isWhole("empty", window);
+    await open({ q: "$..a", d: '{"a":1}\n{"a":[2,{"a":3},4,5]}\n{"a":2.5}', l: "1" }, window);
+    await click("#next");
+    await isWhole("lines", window);
+  }
+}
+
+/** The names by which screen readers tell boxes, switches, buttons and links from one another. */
+async function hasNames() {
+  await open({ q: "$.b[*]", d: STORE });
+  await browser.value('document.querySelectorAll("details").forEach((it) => (it.open = true))');
+  const { nodes } = await browser.send("Accessibility.getFullAXTree");
+  const roles = ["textbox", "radio", "checkbox", "combobox", "button", "link", "list", "navigation", "complementary"];
+  const told = nodes.filter(({ role, ignored }) => !ignored && roles.includes(role?.value));
+  assert.ok(told.length > 30);
+  const nameless = told.filter(({ name, role }) => !name?.value && role.value !== "list");
+  assert.deepEqual(nameless, []);
+  const boxes = told.filter(({ role }) => role.value === "textbox").map(({ name }) => name.value);
+  assert.deepEqual(boxes, ["Query", "Document"]);
+  const live = await browser.value('[...document.querySelectorAll("[aria-live], [role=status]")].map((it) => it.id)');
+  assert.deepEqual(live, ["query-outcome", "part", "told", "current", "document-outcome", "count"]);
+}
+
+async function showsFocus() {
+  await open(null);
+  for (const id of ["query", "document"]) {
+    await editor(id, "focus()");
+    const style = await browser.value(`getComputedStyle(document.querySelector("#${id} .CodeMirror")).outlineStyle`);
+    assert.equal(style, "solid", id);
+  }
+}
+
+async function prints() {
+  const lines = Array.from({ length: 300 }, (_, index) => ` ${index}`).join(",\n");
+  await open({ q: "$[0:2]", d: `[\n${lines}\n]` });
+  await browser.send("Emulation.setEmulatedMedia", { media: "print" });
+  await browser.value('dispatchEvent(new Event("beforeprint"))');
+  assert.equal(await countOf("#document .CodeMirror-line"), 302);
+  const visible = await browser.value('[...document.querySelectorAll("button, select, .reference")].filter((it) => it.checkVisibility()).map((it) => it.className)');
+  assert.ok(visible.every((it) => it.includes("code")), visible.join());
+  const [height, page] = await browser.value('[document.querySelector("#document .CodeMirror").clientHeight, document.documentElement.scrollHeight]');
+  assert.ok(height > 302 * 15 && page > height);
+  await browser.value('dispatchEvent(new Event("afterprint"))');
+  await browser.send("Emulation.setEmulatedMedia", { media: "" });
+}
+
+async function movesOnlyWhereItMay() {
+  for (const [motion, expected] of [["no-preference", "working"], ["reduce", "none"]]) {
+    await open({ q: "$", d: JSON.stringify(Array.from({ length: 4000 }, (_, index) => [index])) }, { motion });
+    await type("query", `$${`[${Array(99).fill("*")}]`.repeat(2)}.x`);
+    await browser.until('document.querySelector(".working")');
+    assert.equal(await browser.value('getComputedStyle(document.querySelector(".working")).animationName'), expected);
+    await click("#stop");
+  }
+}
+
+async function hasAnIcon() {
+  await open(null);
+  const source = await browser.value('document.querySelector("link[rel=icon]").href');
+  assert.ok(source.startsWith("data:image/svg+xml,"));
+  assert.equal(await browser.value(`new Promise((resolve) => {
+    const image = new Image();
+    image.onload = () => resolve(image.width > 0);
+    image.onerror = () => resolve(false);
+    image.src = document.querySelector("link[rel=icon]").href;
+  })`), true);
+}
+
+/** Without a memory of 64 bits the other engine answers, where the page has it; else the page says what is missing. */
+async function runsWithNarrowMemory() {
+  const before = "WebAssembly.validate = () => false;";
+  await browser.open(`${PAGE}#${new URLSearchParams({ q: "$.b[?@.p<10].t", d: STORE })}`, { before });
+  const isNarrowHere = await browser.value('document.getElementById("engine-32").textContent !== ""');
+  if (isNarrowHere) {
+    await answered();
+    assert.equal(await listed(), "$['b'][0]['t']\t\"é\"\n$['b'][2]['t']\t\"😀\"\n");
+  } else {
+    assert.match(await textOf("#query-outcome"), /Memory64/);
+  }
+}
+
+async function saysWhatIsMissing() {
+  for (const [before, expected] of [
+    ["delete window.WebAssembly;", /^This browser has no WebAssembly, .* Chrome and Edge .* Firefox/],
+    ["delete window.DecompressionStream;", /^This browser cannot unpack .* Chrome and Edge .* Firefox/],
+    ["WebAssembly.compile = () => Promise.reject(new Error('too small'));", /^This browser cannot run the page: too small/],
+  ]) {
+    await browser.open(PAGE, { before });
+    await browser.until('document.querySelector("#query-outcome .wrong")');
+    assert.match(await textOf("#query-outcome"), expected);
+  }
+}
+
+export const tests = [
+  isWholeInEachWindow,
+  hasNames,
+  showsFocus,
+  prints,
+  movesOnlyWhereItMay,
+  hasAnIcon,
+  runsWithNarrowMemory,
+  saysWhatIsMissing,
+];
