@@ -55,28 +55,27 @@ export class Before {
     return this.#cases.length === 0;
   }
 
-  /** Remembers a case that another one replaces, unless the other came from the page itself and is unchanged. */
+  /** Remembers a case that another one replaces. One that `isOwn` came from the page itself, which has it. */
   replace(old, next, isOwn) {
-    this.#remember(old);
+    if (this.#isWorthIt(old) && !isSame(old, next)) {
+      this.#cases = [...this.#cases.filter((it) => !isSame(it, old)), old].slice(-MOST_KEPT_BACK);
+    }
     this.#put = isOwn ? next : null;
   }
 
-  /** The case that was replaced last, in whose place `now` is remembered. */
+  /** The case that was replaced last. What is here `now` is the last to come back. */
   bringBack(now) {
     const last = this.#cases.pop();
-    if (this.#put === null || !isSame(this.#put, now)) {
+    if (this.#isWorthIt(now) && !this.#cases.some((it) => isSame(it, now))) {
       this.#cases.unshift(now);
     }
     this.#put = null;
     return last;
   }
 
-  #remember(old) {
-    const isOwn = this.#put !== null && isSame(this.#put, old);
-    const isBlank = old.query.trim() === "" && old.document.trim() === "";
-    if (!isOwn && !isBlank && !this.#cases.some((it) => isSame(it, old))) {
-      this.#cases.push(old);
-      this.#cases.splice(0, this.#cases.length - MOST_KEPT_BACK);
-    }
+  /** Whether a case is a user's: one that is not blank, and not as the page put it in. */
+  #isWorthIt(it) {
+    const isBlank = it.query === "" && it.document === "";
+    return !isBlank && (this.#put === null || !isSame(it, this.#put));
   }
 }

@@ -110,6 +110,7 @@ export class DocumentBox {
     const [from, to] = [start, Math.min(end, start + PART / 2)].map((it) => this.#editor.posFromIndex(it - this.#start));
     this.#unfold(from);
     this.#editor.setCursor(from, null, { scroll: false });
+    this.#editor.getWrapperElement().scrollIntoView({ block: "nearest" });
     this.#editor.scrollIntoView({ from, to: to.line - from.line > 10 ? from : to }, 40);
   }
 

@@ -40,6 +40,6 @@ export const KEYS = [
   ["↓, ↑, Home, End", "in the list of nodes: from one to another"],
   ["Enter", "on a node: its value in the document"],
   ["Ctrl+.", "in the document: fold or unfold at the cursor"],
-  ["Ctrl+Z", "in the query or the document: undo"],
+  ["Ctrl+Z", "in the query or the document: undo (on a Mac Cmd+Z)"],
   ["Esc", "stop what is at work"],
 ];

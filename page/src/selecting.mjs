@@ -29,6 +29,7 @@ export class Selection {
     this.#places = this.#current = null;
     await this.#list.show(count);
     this.#tell();
+    byId("order").disabled = false;
     if (count === 0) {
       this.#marks.show(null);
       return;
@@ -37,6 +38,7 @@ export class Selection {
     // Where a new question came there are none, and where there are too many these have no places.
     if (places !== null) {
       this.#places = places.starts ? places : null;
+      byId("order").disabled = this.#places === null;
       this.#marks.show(this.#places);
       await (byId("order").value === "document" ? this.#list.renew() : null);
     }
