@@ -1,5 +1,5 @@
 /** The document: its editor, which shows a part of a long one, and what the engine says of it. */
-import { setRefused } from "./editors.mjs";
+import { setRefused, settle } from "./editors.mjs";
 import { counted, made, madeButton, spelled } from "./elements.mjs";
 
 // In characters: what the editor holds whole, in all and in a line; and what it shows of a longer one.
@@ -107,7 +107,9 @@ export class DocumentBox {
     if (this.#long !== null && (start < this.#start || Math.min(end, start + 100) > this.#start + PART)) {
       this.showFrom(Math.max(0, start - PART / 10));
     }
-    const [from, to] = [start, Math.min(end, start + PART / 2)].map((it) => this.#editor.posFromIndex(it - this.#start));
+    const [from, to] = [start, Math.min(end, start + PART / 2)].map((it) =>
+      this.#editor.posFromIndex(it - this.#start),
+    );
     this.#unfold(from);
     this.#editor.setCursor(from, null, { scroll: false });
     this.#editor.getWrapperElement().scrollIntoView({ block: "nearest" });
@@ -146,6 +148,7 @@ export class DocumentBox {
 
   /** Marks each place that is refused, or the character before one at the end, of a document that is here whole. */
   #mark(refused) {
+    settle(this.#editor);
     this.#marks.splice(0).forEach((mark) => mark.clear());
     for (const { line, column } of this.#long === null ? refused : []) {
       const characters = [...(this.#editor.getLine(line - 1) ?? "")].slice(0, column);

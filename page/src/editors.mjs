@@ -25,6 +25,16 @@ function madeEditor(id, name, describedBy, keys, options) {
   return editor;
 }
 
+/** Has the editor read what was typed last, which it does a little later else: a mark that is drawn before loses it. */
+export function settle(editor) {
+  const { input } = editor.display;
+  if (input.readDOMTimeout && !input.composing) {
+    clearTimeout(input.readDOMTimeout);
+    input.readDOMTimeout = null;
+    input.updateFromDOM();
+  }
+}
+
 /** Says to screen readers, and by a color, whether what stands in an editor is refused. */
 export function setRefused(editor, isRefused) {
   editor.getInputField().setAttribute("aria-invalid", String(isRefused));

@@ -12,8 +12,15 @@ function descendants(word) {
 }
 
 function index(word) {
-  const fromEnd = word.startsWith("-");
-  return fromEnd ? `The item of a list that is number ${word.slice(1)} from its end.` : `The item of a list with index ${word}, counted from 0.`;
+  return word.startsWith("-")
+    ? `The item of a list that is number ${word.slice(1)} from its end.`
+    : `The item of a list with index ${word}, counted from 0.`;
+}
+
+function bracket(word) {
+  return word === "["
+    ? "Here begin selectors; a segment gives what each selects, one after another."
+    : "Here the selectors end.";
 }
 
 function slice(word) {
@@ -53,10 +60,7 @@ const MEANINGS = {
   child: ["2.5.1", (word) => `The member named ${word.slice(1)}.`],
   children: ["2.5.1", () => "All children: the items of a list, or the values of an object's members."],
   descendants: ["2.5.2", descendants],
-  bracket: [
-    "2.5.1",
-    (word) => (word === "[" ? "Here begin selectors; a segment gives what each selects, one after another." : "Here the selectors end."),
-  ],
+  bracket: ["2.5.1", bracket],
   name: ["2.3.1", (word) => `The member named ${word}.`],
   wildcard: ["2.3.2", () => "All children: the items of a list, or the values of an object's members."],
   index: ["2.3.3", index],

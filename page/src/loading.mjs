@@ -19,9 +19,11 @@ export function lackHere() {
   if (typeof WebAssembly === "undefined") {
     return `This browser has no WebAssembly, in which the engine is written. ${NEEDED}`;
   }
-  return typeof DecompressionStream === "undefined"
-    ? `This browser cannot unpack what the page holds (DecompressionStream). ${NEEDED}`
-    : `This browser's WebAssembly has no memory with addresses of 64 bits (Memory64), in which the engine works. ${NEEDED}`;
+  const lack =
+    typeof DecompressionStream === "undefined"
+      ? "This browser cannot unpack what the page holds (DecompressionStream)."
+      : "This browser's WebAssembly has no memory with addresses of 64 bits (Memory64), in which the engine works.";
+  return `${lack} ${NEEDED}`;
 }
 
 /** What the element of an id holds packed. */

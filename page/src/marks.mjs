@@ -1,5 +1,7 @@
 /** The selected values, marked in the document: all that are in sight, and the current one stronger. */
 
+import { settle } from "./editors.mjs";
+
 // More marks than these would make the editor slow.
 const MOST_IN_SIGHT = 2000;
 
@@ -69,6 +71,7 @@ export class Marks {
   }
 
   #refresh() {
+    settle(this.#editor);
     if (this.#places !== null) {
       this.#editor.operation(() => {
         this.#marks.splice(0).forEach((mark) => mark.clear());

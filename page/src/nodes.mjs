@@ -96,10 +96,16 @@ export class NodeList {
     current?.setAttribute("aria-current", "true");
     const reached = current ?? items[0];
     items.forEach((item) => (item.querySelector(".path").tabIndex = item === reached ? 0 : -1));
-    if (current && this.#list.scrollHeight > this.#list.clientHeight) {
-      const [{ top, bottom }, around] = [current, this.#list].map((it) => it.getBoundingClientRect());
-      this.#list.scrollTop += Math.min(0, top - around.top) || Math.max(0, Math.min(bottom - around.bottom, top - around.top));
+    if (current) {
+      this.#bringIntoSight(current);
     }
+  }
+
+  /** Scrolls the list, where it scrolls by itself, and never the page. */
+  #bringIntoSight(item) {
+    const [{ top, bottom }, around] = [item, this.#list].map((it) => it.getBoundingClientRect());
+    const below = Math.min(bottom - around.bottom, top - around.top);
+    this.#list.scrollTop += top < around.top ? top - around.top : Math.max(0, below);
   }
 
   #item({ line, path, value }, place) {
@@ -146,7 +152,8 @@ function shortened({ text, left }) {
 function valueParts({ text, left }) {
   const whole = indented(text);
   const shown = made("pre", "code value", whole);
-  const more = left === 0 ? [] : [made("p", "quiet", `and ${counted(left, "more character", "more characters")}, which Copy and Save have`)];
+  const rest = `and ${counted(left, "more character", "more characters")}, which Copy and Save have`;
+  const more = left === 0 ? [] : [made("p", "quiet", rest)];
   const lines = whole.split("\n").length;
   if (lines <= LINES_FOLDED) {
     return [shown, ...more];

@@ -27,8 +27,8 @@ const NO_NODES = {
   isWithoutDocument: "No answer: there is no document.",
 };
 const FILE_NAMES = { json: "nodes.json", lines: "nodes.txt", csv: "nodes.csv" };
-const [FIRST_EXAMPLE] = EXAMPLES;
-const FIRST_CASE = { query: FIRST_EXAMPLE.queries[0], document: FIRST_EXAMPLE.document, profile: "standard", byLines: false };
+const [FIRST] = EXAMPLES;
+const FIRST_CASE = { query: FIRST.queries[0], document: FIRST.document, profile: "standard", byLines: false };
 
 function chosen(name) {
   return document.querySelector(`input[name="${name}"]:checked`).value;
@@ -58,8 +58,9 @@ class Page {
     const typed = queryEditor(() => this.#run());
     this.#drawn = documentEditor();
     this.#query = new QueryBox(typed, byId("query-outcome"));
-    const [long, earlier, later, stepping, outcome] = ["long", "earlier", "later", "stepping", "document-outcome"].map(byId);
-    this.#document = new DocumentBox(this.#drawn, { long, earlier, later, stepping, outcome }, (it) => this.#replace(it));
+    const [long, earlier, later, stepping] = ["long", "earlier", "later", "stepping"].map(byId);
+    const parts = { long, earlier, later, stepping, outcome: byId("document-outcome") };
+    this.#document = new DocumentBox(this.#drawn, parts, (it) => this.#replace(it));
     this.#list = new NodeList(byId("nodes"), byId("windows"), {
       fetch: (from, to) => this.#asker.about("nodes", { from, to, order: byId("order").value }),
       pick: (place) => this.#selection.goTo(place),
@@ -270,7 +271,9 @@ class Page {
       file: ({ target }) => this.#openFile(target),
     };
     Object.entries(changes).forEach(([id, change]) => byId(id).addEventListener("change", change));
-    document.querySelectorAll('input[name="profile"]').forEach((it) => it.addEventListener("change", () => this.#changed()));
+    for (const input of document.querySelectorAll('input[name="profile"]')) {
+      input.addEventListener("change", () => this.#changed());
+    }
     addEventListener("keydown", (event) => this.#key(event), true);
     addEventListener("hashchange", () => this.#follow());
     addEventListener("pagehide", () => keepInTab(this.#case()));

@@ -1,6 +1,6 @@
 /** The query: its editor, what the engine says of it, and the mark of what is refused. */
 import { indexAt } from "../../bindings/node/texts.mjs";
-import { setRefused } from "./editors.mjs";
+import { setRefused, settle } from "./editors.mjs";
 import { made, madeButton } from "./elements.mjs";
 
 // Of such a query alone the engine says nothing, since it is no text.
@@ -60,6 +60,7 @@ export class QueryBox {
 
   /** Shows what the engine says of the query. */
   show({ query: refused, canonical, fault }) {
+    settle(this.#editor);
     this.#unmark();
     setRefused(this.#editor, Boolean(refused));
     if (refused) {
@@ -73,9 +74,11 @@ export class QueryBox {
 
   /** Shows what can be asked where nothing is. */
   showExample(query) {
+    settle(this.#editor);
     this.#unmark();
     setRefused(this.#editor, false);
-    this.#outcome.replaceChildren(made("p", "", "A query begins with ", made("code", "", "$"), ". Try: ", this.#queryButton(query)));
+    const words = ["A query begins with ", made("code", "", "$"), ". Try: ", this.#queryButton(query)];
+    this.#outcome.replaceChildren(made("p", "", ...words));
   }
 
   #accepted(canonical) {
@@ -99,7 +102,8 @@ export class QueryBox {
     this.#markAt(index);
     const column = [...this.text.slice(0, index)].length;
     const inCharacters = column === place ? "" : ` (character ${column})`;
-    const words = made("p", "wrong", made("strong", "", `${kind} at ${place}${inCharacters}: `), sentence ?? HALF_A_PAIR);
+    const heading = made("strong", "", `${kind} at ${place}${inCharacters}: `);
+    const words = made("p", "wrong", heading, sentence ?? HALF_A_PAIR);
     return suggestion === null ? [words] : [words, made("p", "", "Try: ", this.#queryButton(suggestion))];
   }
 

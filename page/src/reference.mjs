@@ -18,7 +18,7 @@ export const SYNTAX = [
 
 /** Each with its parameters, what it answers, and a query over the document of the examples of section 2.4. */
 export const FUNCTIONS = [
-  ["length(@.name)", "@.name", "how many characters a text has, a list items, an object members", "$[?length(@.authors) == 2]"],
+  ["length(@.name)", "@.name", "how many characters, items or members there are", "$[?length(@.authors) == 2]"],
   ["count(@.*)", "@.*", "how many nodes a query selects", "$[?count(@.*) == 3].name"],
   ["match(@.name, 'A.*')", "'A.*'", "whether a whole text fits a pattern (RFC 9485)", '$[?match(@.born, "18.*")].name'],
   ["search(@.name, 'a')", "'a'", "whether some part of a text fits", '$[?search(@.born, "-12-")].name'],

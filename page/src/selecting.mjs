@@ -89,7 +89,8 @@ export class Selection {
 
   #tell() {
     const at = this.#current === null ? "" : `${spelled(this.#current + 1)} of `;
-    byId("current").textContent = this.count === 0 ? "" : `${at}${counted(this.count, "selected value", "selected values")}`;
+    const all = counted(this.count, "selected value", "selected values");
+    byId("current").textContent = this.count === 0 ? "" : `${at}${all}`;
     [byId("previous"), byId("next"), byId("copy"), byId("save")].forEach((it) => (it.disabled = this.count === 0));
   }
 }

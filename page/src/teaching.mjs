@@ -1,4 +1,5 @@
 /** The reference beside the query: lines that put themselves in, examples, and the parts of the query at hand. */
+import { settle } from "./editors.mjs";
 import { byId, calmed, made, madeButton } from "./elements.mjs";
 import { EXAMPLES } from "./examples.mjs";
 import { partAt, partsIn } from "./explaining.mjs";
@@ -100,6 +101,7 @@ export class PartTeller {
       return;
     }
     this.#told = key;
+    settle(this.#editor);
     this.#mark?.clear();
     this.#mark = null;
     this.#line.replaceChildren(...(part ? sentence(part) : []));

@@ -93,7 +93,8 @@ function places() {
   }
   const found = answer.places(numbersOf("nodelist", 0, answer.count));
   const { starts, ends } = found;
-  byPlace = Uint32Array.from(starts.keys()).sort((one, other) => starts[one] - starts[other] || ends[other] - ends[one] || one - other);
+  const compare = (one, other) => starts[one] - starts[other] || ends[other] - ends[one] || one - other;
+  byPlace = Uint32Array.from(starts.keys()).sort(compare);
   return { ...found, byPlace };
 }
 

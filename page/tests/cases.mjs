@@ -1,6 +1,8 @@
 /** Tests that nothing is lost and nothing leaks: links, the tab, and what comes back. */
 import assert from "node:assert/strict";
-import { PAGE, STORE, answered, becomes, browser, click, editor, listed, open, openFile, textOf, textsOf, type } from "./shown.mjs";
+import {
+  PAGE, answered, becomes, browser, click, editor, listed, open, openFile, textOf, textsOf, type,
+} from "./shown.mjs";
 
 const OWN = '{"mine":[1,2]}';
 

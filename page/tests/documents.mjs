@@ -44,7 +44,8 @@ async function indents() {
   await open({ q: "$.b", d: '{"a":[18446744073709551615,[]],"b":"x, y"}' });
   await click("#indent");
   await answered();
-  assert.equal(await editor("document", "getValue()"), '{\n  "a": [\n    18446744073709551615,\n    []\n  ],\n  "b": "x, y"\n}');
+  const expected = '{\n  "a": [\n    18446744073709551615,\n    []\n  ],\n  "b": "x, y"\n}';
+  assert.equal(await editor("document", "getValue()"), expected);
   assert.equal(await listed(), "$['b']\t\"x, y\"\n");
 }
 
@@ -100,7 +101,8 @@ async function showsPartsOfLongDocuments() {
   await openFile("document.json", text);
   await answered();
   assert.equal(await listed(), "$[299999]['id']\t\"é299999\"\n");
-  assert.match(await textOf("#long"), new RegExp(`${text.length.toLocaleString("en")} characters; here are those from 1 to 10,000`));
+  const all = text.length.toLocaleString("en");
+  assert.equal(await textOf("#long span"), `${all} characters; here are those from 1 to 10,000.`);
   await click("#nodes .path");
   await becomes(() => marked("document", "current"), ['"é299999"']);
   await click("#earlier");
@@ -123,7 +125,7 @@ async function readsJsonLines() {
   assert.deepEqual(items, ["line 1", "$['a']", "line 3", "$['a']", "line 3", "$['a'][1]['a']", "line 6", "$['a']"]);
   assert.equal(await textOf("#document-outcome summary"), "2 lines are refused");
   assert.match((await textsOf("#document-outcome li"))[0], /^NotWhole in line 4, column 6: .* \$\['a'\]$/);
-  assert.match((await textsOf("#document-outcome li"))[1], /^NotJson in line 5, column 4: No comma may come before a closing bracket/);
+  assert.match((await textsOf("#document-outcome li"))[1], /^NotJson in line 5, column 4: No comma may come before /);
   assert.deepEqual(await marked("document", "selected"), ["1", '[2,{"a":3}]', "3", "4"]);
   await browser.value('document.querySelectorAll("#nodes .path")[2].click()');
   await becomes(() => marked("document", "current"), ["3"]);

@@ -1,9 +1,12 @@
 /** Tests of how the page looks: its names, contrast, widths, print and motion, and in browsers that lack something. */
 import assert from "node:assert/strict";
 import { join } from "node:path";
-import { PAGE, STORE, answered, becomes, browser, click, countOf, editor, listed, open, textOf, type } from "./shown.mjs";
+import {
+  PAGE, STORE, answered, becomes, browser, click, countOf, editor, listed, open, textOf, type,
+} from "./shown.mjs";
 
-const WINDOWS = [360, 800, 1280].flatMap((width) => ["light", "dark"].map((scheme) => ({ width, height: 800, scheme })));
+const WIDTHS = [360, 800, 1280];
+const WINDOWS = WIDTHS.flatMap((width) => ["light", "dark"].map((scheme) => ({ width, height: 800, scheme })));
 const [, , , pictures] = process.argv;
 
 /** What is said with less contrast than 4.5 (WCAG 2.2, success criterion 1.4.3). What can't be pressed is left out. */
@@ -16,7 +19,8 @@ const FAINT = `(() => {
     return [...canvas.getImageData(0, 0, 1, 1).data];
   };
   const light = (color) => {
-    const [red, green, blue] = channels(color).map((it) => (it / 255 <= 0.04045 ? it / 255 / 12.92 : ((it / 255 + 0.055) / 1.055) ** 2.4));
+    const parts = channels(color).map((it) => it / 255);
+    const [red, green, blue] = parts.map((it) => (it <= 0.04045 ? it / 12.92 : ((it + 0.055) / 1.055) ** 2.4));
     return 0.2126 * red + 0.7152 * green + 0.0722 * blue;
   };
   const behind = (element) => {
@@ -101,10 +105,12 @@ async function prints() {
   await browser.send("Emulation.setEmulatedMedia", { media: "print" });
   await browser.value('dispatchEvent(new Event("beforeprint"))');
   assert.equal(await countOf("#document .CodeMirror-line"), 302);
-  const visible = await browser.value('[...document.querySelectorAll("button, select, .reference")].filter((it) => it.checkVisibility()).map((it) => it.className)');
+  const visible = await browser.value(`[...document.querySelectorAll("button, select, .reference")]
+    .filter((it) => it.checkVisibility()).map((it) => it.className)`);
   assert.ok(visible.every((it) => it.includes("code")), visible.join());
-  const [height, page] = await browser.value('[document.querySelector("#document .CodeMirror").clientHeight, document.documentElement.scrollHeight]');
-  assert.ok(height > 302 * 15 && page > height);
+  const height = await browser.value('document.querySelector("#document .CodeMirror").clientHeight');
+  assert.ok(height > 302 * 15);
+  assert.ok((await browser.value("document.documentElement.scrollHeight")) > height);
   await browser.value('dispatchEvent(new Event("afterprint"))');
   await browser.send("Emulation.setEmulatedMedia", { media: "" });
 }
@@ -148,7 +154,7 @@ async function saysWhatIsMissing() {
   for (const [before, expected] of [
     ["delete window.WebAssembly;", /^This browser has no WebAssembly, .* Chrome and Edge .* Firefox/],
     ["delete window.DecompressionStream;", /^This browser cannot unpack .* Chrome and Edge .* Firefox/],
-    ["WebAssembly.compile = () => Promise.reject(new Error('too small'));", /^This browser cannot run the page: too small/],
+    ["WebAssembly.compile = () => Promise.reject(new Error('no'));", /^This browser cannot run the page: no$/],
   ]) {
     await browser.open(PAGE, { before });
     await browser.until('document.querySelector("#query-outcome .wrong")');

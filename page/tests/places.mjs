@@ -50,5 +50,6 @@ for (const document of documents()) {
   });
 }
 assert.ok(count > 300);
-assert.equal(indented('{"a":[],"b":[1,{"c":" , "}]}'), '{\n  "a": [],\n  "b": [\n    1,\n    {\n      "c": " , "\n    }\n  ]\n}');
+const lines = ["{", '  "a": [],', '  "b": [', "    1,", "    {", '      "c": " , "', "    }", "  ]", "}"];
+assert.equal(indented('{"a":[],"b":[1,{"c":" , "}]}'), lines.join("\n"));
 console.log(`${count} values stand where the page marks them, and are the same when they are indented`);

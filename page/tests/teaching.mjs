@@ -1,7 +1,9 @@
 /** Tests of the reference, and of what is told of a query's parts. */
 import assert from "node:assert/strict";
 import { existsSync } from "node:fs";
-import { STORE, answered, becomes, browser, click, countOf, editor, listed, open, press, textOf, textsOf, type } from "./shown.mjs";
+import {
+  STORE, answered, becomes, browser, click, countOf, editor, open, press, textOf, textsOf, type,
+} from "./shown.mjs";
 
 async function insertsSyntax() {
   await open({ q: "$.b", d: STORE });
@@ -39,8 +41,8 @@ async function explainsFunctions() {
     answers.push(await textsOf("#nodes .path"));
   }
   // By hand, from the document of the examples.
-  const expected = [["$[0]"], ["$[0]['name']", "$[1]['name']", "$[2]['name']"], ["$[0]['name']"], ["$[0]['name']", "$[1]['name']"], ["$[2]"], ["$[1]"]];
-  assert.deepEqual(answers, expected);
+  const [ada, charles, zoe] = ["$[0]['name']", "$[1]['name']", "$[2]['name']"];
+  assert.deepEqual(answers, [["$[0]"], [ada, charles, zoe], [ada], [ada, charles], ["$[2]"], ["$[1]"]]);
   assert.equal(await browser.value(`document.querySelector('[value="extended"]').checked`), true);
   await click('[value="standard"]');
   await answered();
@@ -59,9 +61,10 @@ async function explainsParts() {
     return { x: left + width / 2, y: top + height / 2 };
   })()`);
   await browser.send("Input.dispatchMouseEvent", { type: "mouseMoved", x, y });
-  const slice = "1:5:2 The items of a list from index 1 on, up to and without index 5, in steps of 2. (RFC 9535, section 2.3.4)";
-  await becomes(() => textOf("#part"), slice);
-  await browser.value('document.querySelector("#parts").open = true; document.querySelectorAll("#parts button")[3].focus()');
+  const slice = "The items of a list from index 1 on, up to and without index 5, in steps of 2.";
+  await becomes(() => textOf("#part"), `1:5:2 ${slice} (RFC 9535, section 2.3.4)`);
+  await browser.value('document.querySelector("#parts").open = true');
+  await browser.value('document.querySelectorAll("#parts button")[3].focus()');
   assert.match(await textOf("#part"), /^\? The children for which what follows is true\./);
   await press("Enter");
   assert.equal(await editor("query", "getSelection()"), "?");
@@ -83,7 +86,7 @@ async function tellsKeys() {
 
 async function linksToPages() {
   await open(null);
-  const links = await browser.value('[...document.querySelectorAll(".reference > details > p a")].map((it) => it.href)');
+  const links = await browser.value('[...document.querySelectorAll("#reference > p a")].map((it) => it.href)');
   assert.deepEqual(links.filter((it) => it.startsWith("http")), ["https://www.rfc-editor.org/rfc/rfc9535"]);
   links.filter((it) => it.startsWith("file:")).forEach((it) => assert.ok(existsSync(new URL(it)), it));
   assert.equal(links.length, 4);
