@@ -96,7 +96,8 @@ export class DocumentBox {
     this.#editor.setOption("firstLineNumber", linesBefore(this.#long, start) + 1);
     this.#editor.setValue(this.#long.slice(start, end));
     const [all, first, last] = [this.#long.length, start + 1, end].map(spelled);
-    this.#parts.long.lastElementChild.textContent = `${all} characters; here are those from ${first} to ${last}.`;
+    const words = `${all} characters, too many to be changed here; these are ${first} to ${last}.`;
+    this.#parts.long.lastElementChild.textContent = words;
     this.#parts.earlier.disabled = start === 0;
     this.#parts.later.disabled = end === this.#long.length;
     this.partShown();

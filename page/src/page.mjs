@@ -50,6 +50,7 @@ class Page {
   #noticed;
   #asked = null;
   #isAsking = false;
+  #isChanged = false;
   #askSoon = calmed(() => this.#askIfNew(), REST_TO_ASK);
   #keepSoon = calmed(() => keepInTab(this.#case()), REST_TO_KEEP);
 
@@ -67,7 +68,7 @@ class Page {
     });
     this.#selection = new Selection(this.#asker, this.#list, new Marks(this.#drawn, this.#document));
     new PartTeller(typed);
-    showReference((text, part) => this.#query.insert(text, part), (it) => this.#replace(it, true));
+    showReference((...words) => this.#query.insert(...words), (it) => this.#replace(it, true));
     this.#begin();
     for (const editor of [typed, this.#drawn]) {
       editor.on("changes", () => this.#changed());
@@ -120,6 +121,7 @@ class Page {
   }
 
   #changed() {
+    this.#isChanged = true;
     byId("nodes").setAttribute("aria-busy", "true");
     this.#askSoon();
     this.#keepSoon();
@@ -133,6 +135,7 @@ class Page {
 
   /** Asks unless it was asked already. */
   #askIfNew() {
+    this.#isChanged = false;
     if (this.#asked === null || !isSame(this.#asked, this.#case())) {
       this.#ask();
     } else {
@@ -187,7 +190,7 @@ class Page {
     await this.#selection.show(answer.count ?? 0);
     if (this.#asked === asked) {
       this.#isAsking = false;
-      byId("nodes").setAttribute("aria-busy", "false");
+      byId("nodes").setAttribute("aria-busy", String(this.#isChanged));
     }
   }
 

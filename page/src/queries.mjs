@@ -2,6 +2,7 @@
 import { indexAt } from "../../bindings/node/texts.mjs";
 import { setRefused, settle } from "./editors.mjs";
 import { made, madeButton } from "./elements.mjs";
+import { isInExpression } from "./querymode.mjs";
 
 // Of such a query alone the engine says nothing, since it is no text.
 const HALF_A_PAIR = "Half of a surrogate pair is no character.";
@@ -45,11 +46,16 @@ export class QueryBox {
     }
   }
 
-  /** Puts a text in at the cursor, with a part of it selected, if any. */
-  insert(text, part = "") {
-    const isRoot = text.startsWith("$");
-    if (isRoot || this.text === "") {
-      this.put(isRoot || text.startsWith("@") ? "" : "$");
+  /**
+   * Puts a text in at the cursor, with a part of it selected, if any. A text of filters' expressions has another one
+   * for where no expression stands.
+   */
+  insert(inExpression, part = "", elsewhere = inExpression) {
+    const editor = this.#editor;
+    const isExpression = isInExpression(editor.getTokenAt(editor.getCursor("from"), true).state);
+    const text = isExpression ? inExpression : elsewhere;
+    if (text === "$" || this.text === "") {
+      this.put(text === "$" ? "" : "$");
     }
     const start = this.#editor.indexFromPos(this.#editor.getCursor("from"));
     this.#editor.replaceSelection(text);

@@ -38,7 +38,7 @@ const EXPRESSION = [
 ];
 
 /** Whether a place stands in a filter's expression: within parentheses, or behind the `?` of a selector. */
-function isInExpression({ open }) {
+export function isInExpression({ open }) {
   return open.at(-1) === "(" || open.at(-1) === "?";
 }
 

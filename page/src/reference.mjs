@@ -16,18 +16,22 @@ export const SYNTAX = [
   ["[?@.a && !@.b]", "and, not; || is or, and ( ) group", "@.a && !@.b"],
 ];
 
-/** Each with its parameters, what it answers, and a query over the document of the examples of section 2.4. */
+/**
+ * Each function with what is changed of it, what makes a test of it, what it answers, and a query over the document of
+ * the examples of section 2.4.
+ */
 export const FUNCTIONS = [
-  ["length(@.name)", "@.name", "how many characters, items or members there are", "$[?length(@.authors) == 2]"],
-  ["count(@.*)", "@.*", "how many nodes a query selects", "$[?count(@.*) == 3].name"],
-  ["match(@.name, 'A.*')", "'A.*'", "whether a whole text fits a pattern (RFC 9485)", '$[?match(@.born, "18.*")].name'],
-  ["search(@.name, 'a')", "'a'", "whether some part of a text fits", '$[?search(@.born, "-12-")].name'],
-  ["value(@..name)", "@..name", "the value of a node, if a query selects one alone", '$[?value(@..color) == "red"]'],
+  ["length(@.name)", "@.name", " > 1", "how many characters, items or members there are", "$[?length(@.authors) == 2]"],
+  ["count(@.*)", "@.*", " > 1", "how many nodes a query selects", "$[?count(@.*) == 3].name"],
+  ["match(@.name, 'A.*')", "'A.*'", "", "whether a whole text fits a pattern", '$[?match(@.born, "18.*")].name'],
+  ["search(@.name, 'a')", "'a'", "", "whether some part of a text fits", '$[?search(@.born, "-12-")].name'],
+  ["value(@..name)", "@..name", " == 'x'", "the value, if a query selects one alone", '$[?value(@..color) == "red"]'],
 ];
 
 export const EXTENDED_FUNCTION = [
   "distinct(@.*)",
   "@.*",
+  "",
   "nodes without repeats; the profile Extended adds this one, and changes nothing else",
   "$[?count(distinct(@[0,0,1]))==2]",
 ];

@@ -36,9 +36,10 @@ function showFunctions(insert, put) {
   const people = EXAMPLES.find(({ title }) => title.startsWith("2.4"));
   const extended = EXAMPLES.find(({ profile }) => profile === "extended");
   const lines = [...FUNCTIONS, EXTENDED_FUNCTION].map((row) => {
-    const [text, part, meaning, query] = row;
+    const [text, part, test, meaning, query] = row;
     const link = exampleLink(row === EXTENDED_FUNCTION ? extended : people, query, put);
-    return made("li", "", madeButton("code link", text, () => insert(text, part)), ` ${meaning}: `, link);
+    const button = madeButton("code link", text, () => insert(text, part, `[?${text}${test}]`));
+    return made("li", "", button, ` ${meaning}: `, link);
   });
   byId("functions").querySelector("ul").replaceChildren(...lines);
 }

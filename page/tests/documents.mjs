@@ -102,7 +102,7 @@ async function showsPartsOfLongDocuments() {
   await answered();
   assert.equal(await listed(), "$[299999]['id']\t\"é299999\"\n");
   const all = text.length.toLocaleString("en");
-  assert.equal(await textOf("#long span"), `${all} characters; here are those from 1 to 10,000.`);
+  assert.equal(await textOf("#long span"), `${all} characters, too many to be changed here; these are 1 to 10,000.`);
   await click("#nodes .path");
   await becomes(() => marked("document", "current"), ['"é299999"']);
   await click("#earlier");

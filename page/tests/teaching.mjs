@@ -29,11 +29,28 @@ async function insertsSyntax() {
   }
 }
 
+/** Each goes into a filter of its own, which the engine accepts, or into the one at the cursor. */
+async function insertsFunctions(names) {
+  await click('[value="extended"]');
+  for (const index of names.keys()) {
+    await type("query", "");
+    await browser.value(`document.querySelectorAll("#functions li button")[${index}].click()`);
+    await answered();
+    assert.match(await editor("query", "getValue()"), /^\$\[\?/);
+    assert.equal(await countOf("#query-outcome .wrong"), 0);
+  }
+  await type("query", "$[? == 1]");
+  await editor("query", "setCursor(0, 3)");
+  await browser.value('document.querySelector("#functions li button").click()');
+  assert.equal(await editor("query", "getValue()"), "$[?length(@.name) == 1]");
+}
+
 /** The five functions of RFC 9535, section 2.4, and the one of Extended, each with an example. */
 async function explainsFunctions() {
   await open({ q: "$", d: STORE });
   const names = (await textsOf("#functions li button")).map((it) => it.replace(/\(.*/, ""));
   assert.deepEqual(names, ["length", "count", "match", "search", "value", "distinct"]);
+  await insertsFunctions(names);
   const answers = [];
   for (const index of names.keys()) {
     await browser.value(`document.querySelectorAll("#functions a")[${index}].click()`);
