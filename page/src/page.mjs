@@ -108,6 +108,9 @@ class Page {
     const next = { ...now, ...it };
     this.#before.replace(now, next, isExample);
     this.#put(next);
+    if (isExample) {
+      byId("query-name").scrollIntoView({ block: "nearest" });
+    }
     tell(this.#before.isEmpty ? "" : "What was here can be brought back.");
     this.#ask();
     this.#keepSoon();

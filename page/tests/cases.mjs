@@ -15,8 +15,10 @@ async function bringsBackWhatWasHere() {
   await type("document", OWN);
   await type("query", "$.mine");
   await answered();
+  await browser.value('scrollTo(0, document.documentElement.scrollHeight)');
   await browser.value('document.querySelectorAll("#examples a")[1].click()');
   await answered();
+  assert.ok(await browser.value('document.querySelector("#query").getBoundingClientRect().top >= 0'));
   assert.equal(await editor("query", "getValue()"), "$.store.book[*].author");
   assert.equal((await textsOf("#nodes li")).length, 4);
   await browser.value('document.querySelectorAll("#examples a")[8].click()');
