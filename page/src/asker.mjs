@@ -97,7 +97,7 @@ export class Asker {
   }
 
   #answered(answer) {
-    const { isDropped, resolve } = this.#atWork;
+    const { isDropped, resolve } = this.#atWork ?? { isDropped: true };
     this.#atWork = null;
     if (resolve) {
       resolve(answer?.fault ? null : answer);

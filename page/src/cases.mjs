@@ -33,7 +33,11 @@ export function caseIn(fragment) {
 /** Keeps a case with this entry of the tab's history, where a reload finds it, and takes any out of the address. */
 export function keepInTab(it) {
   const text = it.document.length <= LONGEST_KEPT ? it.document : null;
-  history.replaceState({ kept: { ...it, document: text } }, "", location.pathname + location.search);
+  try {
+    history.replaceState({ kept: { ...it, document: text } }, "", location.pathname + location.search);
+  } catch {
+    // A page within another may be kept from it; there a reload begins anew.
+  }
 }
 
 /** The case that the tab has kept, or null. */

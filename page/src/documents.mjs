@@ -8,7 +8,7 @@ const LONGEST_LINE = 20_000;
 const PART = 10_000;
 // With more lines than these, the editor looks for no ends of brackets to fold.
 const MOST_FOLDED = 20_000;
-// In bytes: what is put in line by line is a file with such an ending.
+// A file with such an ending has a document a line.
 const LINES_FILE = /\.(?:jsonl|ndjson)$/i;
 
 function hasLongLine(text) {
@@ -67,10 +67,6 @@ export class DocumentBox {
     return this.#start;
   }
 
-  get isLong() {
-    return this.#long !== null;
-  }
-
   put(text) {
     // The editor reads each end of a line as a newline.
     const whole = text.includes("\r") ? text.replace(/\r\n?/g, "\n") : text;
@@ -127,7 +123,7 @@ export class DocumentBox {
 
   /** Takes a text that is put in where it makes the document long. */
   #takeLong(change) {
-    if (change.origin !== "paste" && change.origin !== "drop") {
+    if (change.origin !== "paste") {
       return;
     }
     const added = change.text.join("\n");

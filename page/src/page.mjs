@@ -1,6 +1,6 @@
 /** The page: what is asked, and what is shown of the answers. */
 import { Asker } from "./asker.mjs";
-import { Before, LONGEST_IN_LINK, caseIn, fragmentOf, isSame, keepInTab, keptInTab } from "./cases.mjs";
+import { Before, caseIn, isSame, keepInTab, keptInTab } from "./cases.mjs";
 import { DocumentBox } from "./documents.mjs";
 import { documentEditor, queryEditor } from "./editors.mjs";
 import { byId, calmed, counted, made } from "./elements.mjs";
@@ -11,6 +11,7 @@ import { Marks } from "./marks.mjs";
 import { NodeList } from "./nodes.mjs";
 import { QueryBox } from "./queries.mjs";
 import { Selection } from "./selecting.mjs";
+import { copyLink, copyNodes, linkHolds, saveNodes } from "./sharing.mjs";
 import { PartTeller, showReference } from "./teaching.mjs";
 
 // In milliseconds: how long the page rests after a key before it asks, and before it keeps what is typed; and when a
@@ -26,7 +27,6 @@ const NO_NODES = {
   fault: "No answer.",
   isWithoutDocument: "No answer: there is no document.",
 };
-const FILE_NAMES = { json: "nodes.json", lines: "nodes.txt", csv: "nodes.csv" };
 const [FIRST] = EXAMPLES;
 const FIRST_CASE = { query: FIRST.queries[0], document: FIRST.document, profile: "standard", byLines: false };
 
@@ -150,10 +150,11 @@ class Page {
   #ask() {
     const it = this.#case();
     this.#asked = it;
-    this.#showLink(it);
+    byId("link-holds").textContent = linkHolds(it);
     if (it.query === "") {
       this.#asker.drop();
       this.#query.showExample(FIRST_CASE.query);
+      this.#document.show({});
       this.#end({});
       return;
     }
@@ -197,46 +198,11 @@ class Page {
     }
   }
 
-  /** Says what a link would hold. */
-  #showLink({ document: text }) {
-    const isWhole = text.length <= LONGEST_IN_LINK;
-    const holds = isWhole ? "the query and the whole document" : "the query alone, since the document is too long";
-    byId("link-holds").textContent = `A link holds ${holds}.`;
-  }
-
-  /** Puts the case into the address, and the address where it can be pasted. */
-  async #copyLink() {
-    history.replaceState(history.state, "", fragmentOf(this.#case()));
-    try {
-      await navigator.clipboard.writeText(location.href);
-      tell("Copied.");
-    } catch {
-      tell("Copy the page's address, which is the link now.");
-    }
-  }
-
-  #written() {
+  /** Copies or saves the nodes, in the order, the format and the form that are chosen. */
+  async #writeOut(write) {
     const [order, format, form] = ["order", "format", "form"].map((it) => byId(it).value);
-    return this.#asker.about("written", { order, format, form });
-  }
-
-  async #copy() {
-    try {
-      const blob = await this.#written();
-      await navigator.clipboard.writeText(await blob.text());
-      tell(`Copied ${counted(this.#selection.count, "node", "nodes")}.`);
-    } catch {
-      tell("The browser did not let the page copy: save the nodes instead.");
-    }
-  }
-
-  async #save() {
-    const blob = await this.#written();
-    const link = made("a", "");
-    link.href = URL.createObjectURL(blob);
-    link.download = FILE_NAMES[byId("format").value];
-    link.click();
-    setTimeout(() => URL.revokeObjectURL(link.href), 60_000);
+    const blob = await this.#asker.about("written", { order, format, form });
+    tell(blob === null ? "" : await write(blob, format));
   }
 
   async #openFile(input) {
@@ -260,14 +226,14 @@ class Page {
   #listen() {
     const presses = {
       stop: () => this.#stop(),
-      link: () => this.#copyLink(),
+      link: async () => tell(await copyLink(this.#case())),
       back: () => this.#bringBack(),
       indent: () => this.#indent(),
       empty: () => this.#replace({ document: "" }),
       previous: () => this.#selection.step(-1),
       next: () => this.#selection.step(1),
-      copy: () => this.#copy(),
-      save: () => this.#save(),
+      copy: () => this.#writeOut((blob) => copyNodes(blob, this.#selection.count)),
+      save: () => this.#writeOut(saveNodes),
     };
     Object.entries(presses).forEach(([id, press]) => byId(id).addEventListener("click", press));
     const changes = {
@@ -287,12 +253,12 @@ class Page {
     addEventListener("afterprint", () => this.#drawn.setOption("viewportMargin", 10));
   }
 
-  /** Keys that are taken anywhere on the page. */
+  /** Keys that are taken anywhere on the page, but for lists of choices, which open by them. */
   #key(event) {
     const step = { ArrowDown: 1, ArrowUp: -1 }[event.key];
     if (event.key === "Escape") {
       this.#stop();
-    } else if (event.altKey && !event.ctrlKey && step) {
+    } else if (step && event.altKey && !event.ctrlKey && event.target.localName !== "select") {
       event.preventDefault();
       event.stopPropagation();
       this.#selection.step(step);

@@ -83,6 +83,7 @@ export class PartTeller {
     const tell = calmed(() => this.#tell(partAt(editor, editor.getCursor())), REST);
     editor.on("cursorActivity", tell);
     editor.on("changes", () => this.#showList());
+    byId("parts").addEventListener("toggle", () => this.#showList());
     editor.on("focus", tell);
     editor.getWrapperElement().addEventListener("mousemove", (event) => this.#tellUnder(event));
     editor.getWrapperElement().addEventListener("mouseleave", () => this.#tell(partAt(editor, editor.getCursor())));
@@ -113,6 +114,9 @@ export class PartTeller {
   }
 
   #showList() {
+    if (!byId("parts").open) {
+      return;
+    }
     const items = partsIn(this.#editor).map((part) => {
       const [from, to] = [part.start, part.end].map((ch) => ({ line: part.line, ch }));
       const button = madeButton("code link", part.word, () => {

@@ -61,6 +61,10 @@ async function isCalmWhereItIsEmpty() {
     await open(words);
     assert.equal(await countOf(".wrong, .refused, [aria-invalid=true]"), 0);
   }
+  await open({ q: "$", d: "[1,]" });
+  await type("query", "");
+  await answered();
+  assert.equal(await countOf(".wrong, .refused, [aria-invalid=true]"), 0);
   await open({ q: "  \n", d: STORE });
   assert.equal(await textOf("#query-outcome"), "A query begins with $. Try: $..book[?@.price<10].title");
   await click("#query-outcome button");

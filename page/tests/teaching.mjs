@@ -81,6 +81,7 @@ async function explainsParts() {
   const slice = "The items of a list from index 1 on, up to and without index 5, in steps of 2.";
   await becomes(() => textOf("#part"), `1:5:2 ${slice} (RFC 9535, section 2.3.4)`);
   await browser.value('document.querySelector("#parts").open = true');
+  await browser.until('document.querySelectorAll("#parts button").length === 15');
   await browser.value('document.querySelectorAll("#parts button")[3].focus()');
   assert.match(await textOf("#part"), /^\? The children for which what follows is true\./);
   await press("Enter");
