@@ -1,6 +1,7 @@
 /** Tests of the reference, and of what is told of a query's parts. */
 import assert from "node:assert/strict";
 import { existsSync } from "node:fs";
+import { EXAMPLES } from "../src/examples.mjs";
 import {
   STORE, answered, becomes, browser, click, countOf, editor, open, press, textOf, textsOf, type,
 } from "./shown.mjs";
@@ -88,6 +89,19 @@ async function explainsParts() {
   assert.equal(await editor("query", "getSelection()"), "?");
 }
 
+/** Each word of a query that is accepted is one that the page explains. */
+async function tellsAllWords() {
+  await open(null);
+  await browser.value('document.querySelector("#parts").open = true');
+  for (const { title, queries } of EXAMPLES.filter((it) => it.title !== "Refused queries")) {
+    for (const query of queries) {
+      await editor("query", `setValue(${JSON.stringify(query)})`);
+      const words = await textsOf("#parts button");
+      assert.equal(words.join("").replace(/\s/g, ""), query.replace(/\s/g, ""), title);
+    }
+  }
+}
+
 async function tellsKeys() {
   await open(null);
   const keys = await textsOf("#keys kbd");
@@ -110,4 +124,4 @@ async function linksToPages() {
   assert.equal(links.length, 4);
 }
 
-export const tests = [insertsSyntax, explainsFunctions, explainsParts, tellsKeys, linksToPages];
+export const tests = [insertsSyntax, explainsFunctions, explainsParts, tellsAllWords, tellsKeys, linksToPages];
