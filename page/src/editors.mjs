@@ -14,6 +14,19 @@ const COMMON = {
 // Tab goes on to what is next on the page.
 const KEYS_OF_ALL = { Tab: false, "Shift-Tab": false };
 
+/**
+ * Has an editor take what is put in without a key, as from a list of emoji, in place of what is selected. By itself it
+ * compares the texts before and after, and keeps selected what both begin with.
+ */
+function takeTexts(editor, field) {
+  field.addEventListener("beforeinput", (event) => {
+    if (event.inputType === "insertText" && event.cancelable && event.data !== null && !editor.isReadOnly()) {
+      event.preventDefault();
+      editor.replaceSelection(event.data, "end", "+input");
+    }
+  });
+}
+
 /** An editor in the element of an id, with a name for screen readers and what describes it. */
 function madeEditor(id, name, describedBy, keys, options) {
   const extraKeys = { ...KEYS_OF_ALL, ...keys };
@@ -22,6 +35,7 @@ function madeEditor(id, name, describedBy, keys, options) {
   field.setAttribute("role", "textbox");
   field.setAttribute("aria-multiline", "true");
   field.setAttribute("aria-describedby", describedBy);
+  takeTexts(editor, field);
   return editor;
 }
 

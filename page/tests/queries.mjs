@@ -1,8 +1,8 @@
 /** Tests of the query: how it is asked, its colors, its mark where it is refused, and that nothing moves. */
 import assert from "node:assert/strict";
 import {
-  STORE, answered, becomes, boxOf, browser, byProgram, caret, click, countOf, editor, listed, open, press, textOf,
-  textsOf, type,
+  STORE, answered, becomes, boxOf, browser, byProgram, caret, click, countOf, editor, listed, open, press, pressOnly,
+  textOf, textsOf, type,
 } from "./shown.mjs";
 
 async function showsRefusedQueries() {
@@ -124,6 +124,26 @@ async function movesNothing() {
   }
 }
 
+/** What is typed, or put in without keys, stands there whole, also where answers come between and all was selected. */
+async function keepsWhatIsTyped() {
+  const text = "$.b[?@.p<9]['t']";
+  const ways = [pressOnly, (it) => browser.send("Input.insertText", { text: it })];
+  for (const pause of [0, 130]) {
+    for (const way of ways) {
+      await open({ q: "$..a[?@]", d: STORE });
+      await editor("query", "focus()");
+      await editor("query", 'execCommand("selectAll")');
+      for (const character of text) {
+        await way(character);
+        await browser.value(`new Promise((resolve) => setTimeout(resolve, ${pause}))`);
+      }
+      await answered();
+      assert.equal(await editor("query", "getValue()"), text);
+      assert.equal(await listed(), "$['b'][0]['t']\t\"é\"\n");
+    }
+  }
+}
+
 async function answersWhileTyping() {
   await open({ q: "$.b", d: STORE });
   await type("query", "$[");
@@ -144,5 +164,6 @@ export const tests = [
   colorsQueries,
   pairsBrackets,
   movesNothing,
+  keepsWhatIsTyped,
   answersWhileTyping,
 ];

@@ -68,15 +68,22 @@ export async function type(id, text) {
   await browser.until(`document.querySelector("#${id} .CodeMirror").CodeMirror.getValue() === ${JSON.stringify(text)}`);
 }
 
+/** Presses a key, with others held. */
 export async function press(key, ...held) {
+  await pressOnly(key, held);
+  await pause(150);
+}
+
+/** Presses a key, and waits for nothing. */
+export async function pressOnly(key, held = []) {
   const modifiers = held.reduce((all, it) => all | MODIFIERS[it], 0);
-  const code = KEYS[key];
+  // By 229 a key says that its character is what counts.
+  const code = KEYS[key] ?? 229;
   const text = key.length === 1 && modifiers === 0 ? { text: key } : key === "Enter" ? { text: "\r" } : {};
   for (const type of ["keyDown", "keyUp"]) {
     const words = { type, key, code: key, windowsVirtualKeyCode: code, modifiers, ...(type === "keyDown" ? text : {}) };
     await browser.send("Input.dispatchKeyEvent", words);
   }
-  await pause(150);
 }
 
 /** The texts that marks of a class have in an editor, in its order. */
