@@ -88,9 +88,9 @@ export class Selection {
   }
 
   #tell() {
-    const at = this.#current === null ? "" : `${spelled(this.#current + 1)} of `;
     const all = counted(this.count, "selected value", "selected values");
-    byId("current").textContent = this.count === 0 ? "" : `${at}${all}`;
+    const at = this.#current === null ? all : `${spelled(this.#current + 1)} of ${spelled(this.count)} selected`;
+    byId("current").textContent = this.count === 0 ? "" : at;
     [byId("previous"), byId("next"), byId("copy"), byId("save")].forEach((it) => (it.disabled = this.count === 0));
   }
 }

@@ -31,14 +31,14 @@ async function marksAll() {
   assert.equal(await textOf("#current"), "3 selected values");
   await click("#next");
   await becomes(() => marked("document", "current"), ["8"]);
-  assert.equal(await textOf("#current"), "1 of 3 selected values");
+  assert.equal(await textOf("#current"), "1 of 3 selected");
   assert.equal(await textOf("#nodes [aria-current] .path"), "$['b'][0]['p']");
   await press("ArrowUp", "Alt");
   await becomes(() => marked("document", "current"), ["9"]);
   await press("ArrowDown", "Alt");
   await press("ArrowDown", "Alt");
   await becomes(() => marked("document", "current"), ["12"]);
-  assert.equal(await textOf("#current"), "2 of 3 selected values");
+  assert.equal(await textOf("#current"), "2 of 3 selected");
   assert.deepEqual(await marked("document", "selected"), ["8", "12", "9"]);
   await type("document", "[1]");
   await answered();
