@@ -117,8 +117,16 @@ export class DocumentBox {
     this.#editor.findMarksAt(position).forEach((mark) => mark.__isFold && mark.clear());
   }
 
+  /** Takes a file in place of the document. One that can't be read, or is too large for a text, leaves it. */
   async takeFile(file) {
-    this.#replace({ document: await file.text(), byLines: LINES_FILE.test(file.name) });
+    let text;
+    try {
+      text = await file.text();
+    } catch (fault) {
+      this.#parts.outcome.replaceChildren(made("p", "wrong", `The file cannot be read: ${fault.message}`));
+      return;
+    }
+    this.#replace({ document: text, byLines: LINES_FILE.test(file.name) });
   }
 
   /** Takes a text that is put in where it makes the document long. */

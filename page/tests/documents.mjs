@@ -146,6 +146,15 @@ async function takesWhatIsDropped() {
   await becomes(listed, "$['b'][0]['p']\t8\n");
 }
 
+async function keepsTheDocumentWhereAFileFails() {
+  await open({ q: "$.b[0].p", d: STORE });
+  await browser.value('File.prototype.text = () => Promise.reject(new Error("gone"))');
+  await openFile("store.json", "[]");
+  await becomes(() => textOf("#document-outcome"), "The file cannot be read: gone");
+  assert.equal(await editor("document", "getValue()"), STORE);
+  assert.equal(await listed(), "$['b'][0]['p']\t8\n");
+}
+
 export const tests = [
   hasAnEditor,
   showsRefusedDocuments,
@@ -155,4 +164,5 @@ export const tests = [
   showsPartsOfLongDocuments,
   readsJsonLines,
   takesWhatIsDropped,
+  keepsTheDocumentWhereAFileFails,
 ];
