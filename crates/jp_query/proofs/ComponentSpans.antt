@@ -9,7 +9,7 @@ use Rattle.jp_tree.specs.declared.tree.Op.{Op}
 use Rattle.jp_tree.specs.declared.tree.Op.TheVariants.{Equal, Unequal, Less, LessEqual, Greater}
 use Rattle.jp_tree.specs.declared.tree.Op.TheVariants.{GreaterEqual}
 use Rattle.jp_query.specs.Names.{is_function_first, is_function_char, FunctionName, function_name}
-use Rattle.jp_reading.specs.Texts.{Text, bytes}
+use Rattle.jp_reading.specs.Texts.{Text, Spans, bytes}
 use Rattle.jp_reading.specs.Forms.{Form, ◌⌢◌, word, Each, Blank, Separated, Component, Omitted}
 use Rattle.jp_reading.proofs.Forms.Bare.{Bare, bare-word}
 use Rattle.jp_reading.proofs.States.Between.{bytes-append}
@@ -32,7 +32,8 @@ use Rattle.jp_query.specs.Grammar.{deep_bracketed, deep_dotted, Segments, InnerQ
 use Rattle.jp_query.specs.Grammar.{from_current, Side, literal_side, query_side, Parenthesis}
 use Rattle.jp_query.specs.Grammar.{Comparison, Basic, grouped, not_grouped, compared, tested}
 use Rattle.jp_query.specs.Grammar.{not_tested, Conjunction, conjunction, Expression, disjunction}
-use Rattle.jp_query.specs.Grammar.{Inside}
+use Rattle.jp_query.specs.Grammar.{Inside, SpellsFilter}
+use Rattle.jp_query.specs.ComponentSpans.{AreSpansOf}
 use Rattle.jp_query.specs.Components.{Use, as_index, as_bound, as_step, as_side, as_test}
 use Rattle.jp_query.specs.Components.{as_argument}
 use Rattle.jp_query.specs.Components.{QueryComponent, int, constant, inner, called, logical, count}
@@ -430,3 +431,12 @@ spans-of_components n q s text h =
     (segments-has_components n (levels-have_components n) (levels-have_arguments n) h.parts)
     text s 0 text h.is (whole-part text) in
     rw h.tree (record { each = placed.each; rise = placed.rise })
+
+-- and of one that spells a filter's expression, those of its components
+pub filter-spans : (n : ℕ) (e : ExprTree) (s : Spans) (text : Text) → SpellsFilter n e s text
+    → AreSpansOf text (expr_components e) s
+filter-spans n e s text h =
+    let placed = after-bare blank-bare (before-bare
+    (expression-has_components n (levels-have_components n) (levels-have_arguments n) e) blank-bare)
+    text s 0 text h (whole-part text) in
+    record { each = placed.each; rise = placed.rise }

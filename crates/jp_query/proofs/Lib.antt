@@ -10,3 +10,4 @@ pub mod Rules
 pub mod Soundness
 pub mod Spans
 pub mod Unique
+pub mod WholeRules

@@ -16,6 +16,7 @@ use Rattle.jp_query.specs.Laws.{IsParseRefusal, OneRefusal}
 use Rattle.jp_query.specs.Private.Reading.{query_at}
 use Rattle.jp_query.proofs.Soundness.Whole.{read-spells}
 use Rattle.jp_query.proofs.Refusals.Places.{stuck-place, deep-place}
+use Rattle.jp_query.proofs.WholeRules.{queries}
 
 -- ---- viable prefixes of one text
 
@@ -164,9 +165,10 @@ only n text kind place (inr (e, h)) = nothing-spelled n text place h.end
 answered : (n : ℕ) (text : Text) (o : Outcome QueryTree) → query_at n (start text) ≡ o
     → ((q : QueryTree) × (s : Spans) × Spells n q s text) ⊎
     ((kind : RefusalKind) × (place : ℕ) × IsParseRefusal n text kind place)
+unfolding query_at
 answered n text (took q r) e = inl (q, r.found, read-spells n text q r e)
-answered n text (stuck r) e = inr (Syntax, r.at, inl (refl, stuck-place n text r e))
-answered n text (deep r) e = inr (TooDeep, r.at, inr (refl, deep-place n text r e))
+answered n text (stuck r) e = inr (Syntax, r.at, inl (refl, stuck-place queries n text r e))
+answered n text (deep r) e = inr (TooDeep, r.at, inr (refl, deep-place queries n text r e))
 
 pub one-refusal : OneRefusal
 one-refusal n text = record {

@@ -13,10 +13,11 @@ use Rattle.jp_query.specs.Names.{is_name_first, is_name_char}
 use Rattle.jp_query.specs.Strings.{is_plain, scalar_of, escaped, is_escapable}
 use Rattle.jp_query.specs.Ints.{whole_of, negative_of}
 use Rattle.jp_query.specs.Components.{components_of, int, as_index, inner, constant, as_side}
-use Rattle.jp_query.specs.Grammar.{Spells}
+use Rattle.jp_query.specs.Grammar.{Spells, SpellsFilter}
 use Rattle.jp_query.specs.Private.Rules as rule
-use Rattle.jp_query.specs.Private.Reading.{query_at}
-use Rattle.jp_query.proofs.Soundness.Whole.{read-spells}
+use Rattle.jp_query.specs.Private.Reading.{filter_at, query_at}
+use Rattle.jp_query.proofs.Soundness.Whole.{read-spells, read-spelt}
+use Rattle.jp_query.proofs.WholeRules.{filters}
 use Rattle.jp_tree.specs.declared.tree.Op.TheVariants.{Equal, LessEqual}
 use Rattle.jp_reading.specs.declared.span.Span.{Span}
 use Rattle.jp_tree.specs.Singular.{is_singular}
@@ -189,6 +190,29 @@ unfolding query_at rule.query rule.segments rule.segment rule.bracket rule.entri
     rule.operator rule.plain_literal rule.number rule.mantissa rule.decimals rule.exponent
     rule.power rule.digits rule.int rule.unsigned rule.size past_blanks loop is_blank is_digit
 refused_filter-rows = (refl, refl, refl, refl, refl, refl)
+
+-- the expression of a filter alone takes no level of its own, and ends before a comma or a bracket
+expression-rows : SpellsFilter 0 (exists member_a) (at_bytes 1 4 ∷ []) (codes " @.a ")
+    × SpellsFilter 1 (negation (exists here)) (at_bytes 2 3 ∷ []) (codes "!(@)")
+    × (filter_at 0 (start (codes "@, ?@"))
+    ≡ stuck (record { at = 1; rest = codes ", ?@"; found = at_bytes 0 1 ∷ [] }))
+    × (filter_at 0 (start (codes "@ ][0"))
+    ≡ stuck (record { at = 2; rest = codes "][0"; found = at_bytes 0 1 ∷ [] }))
+    × (filter_at 0 (start (codes "(@)")) ≡ deep (record { at = 0; rest = codes "(@)"; found = [] }))
+unfolding filter_at rule.filter_text rule.segments rule.segment
+    rule.member rule.selection rule.shorthand rule.query_within rule.identifier
+    rule.side rule.side_within rule.word rule.comparison_with rule.subject rule.test_expr
+    rule.closed rule.negated rule.negation_on rule.basic rule.inside_expression rule.conjunction
+    rule.expression past_blanks loop is_blank is_digit
+expression-rows = (
+  read-spelt filters 0 (codes " @.a ") (exists member_a)
+      (finish (codes " @.a ") (at_bytes 1 4 ∷ [])) refl,
+  read-spelt filters 1 (codes "!(@)") (negation (exists here))
+      (finish (codes "!(@)") (at_bytes 2 3 ∷ [])) refl,
+  refl,
+  refl,
+  refl,
+)
 
 -- the components of `$[10]`, and of comparisons
 components-rows : (components_of ten ≡ int (Whole (pos 10)) as_index ∷ [])

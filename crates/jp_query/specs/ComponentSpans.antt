@@ -3,13 +3,13 @@ use Rattle.std.specs.Prelude.{◌≡◌, ℕ, ◌+◌, ◌<◌, ◌⊎◌, pos, 
 use Rattle.jp_tree.specs.declared.tree.Numeral.TheVariants.{Whole}
 use Rattle.jp_reading.specs.Texts.{Text, Spans, bytes}
 use Rattle.jp_reading.specs.declared.span.Span.{Span}
-use Rattle.jp_query.specs.Grammar.{InnerQuery, FunctionCall, Logical, Inside, Spells}
+use Rattle.jp_query.specs.Grammar.{InnerQuery, FunctionCall, Logical, Inside, Spells, SpellsFilter}
 use Rattle.jp_query.specs.Ints.{Int}
 use Rattle.jp_query.specs.Components.{QueryComponent, as_step, int, constant, inner, called}
 use Rattle.jp_query.specs.Components.{logical}
-use Rattle.jp_query.specs.Components.{components_of}
+use Rattle.jp_query.specs.Components.{components_of, expr_components}
 use Rattle.jp_query.specs.Literals.{Literal}
-use Rattle.jp_tree.specs.Tree.{QueryTree}
+use Rattle.jp_tree.specs.Tree.{ExprTree, QueryTree}
 
 -- a text that starts at byte o spells the component: a number (RFC 9535 section 2.3.3.1), a literal, a
 -- query inside another, with its `$` or `@` (section 2.3.5.1), a function expression with its name,
@@ -70,3 +70,8 @@ pub record AreSpansOf (text : Text) (components : List QueryComponent) (spans : 
 abbrev pub IsSpelledWithSpans : ℕ → QueryTree → Spans → Type 0
 IsSpelledWithSpans n q spans =
     (text : Text) × Spells n q spans text × AreSpansOf text (components_of q) spans
+
+-- the same of the expression of a filter
+abbrev pub IsFilterWithSpans : ℕ → ExprTree → Spans → Type 0
+IsFilterWithSpans n e spans =
+    (text : Text) × SpellsFilter n e spans text × AreSpansOf text (expr_components e) spans

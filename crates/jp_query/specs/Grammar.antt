@@ -170,6 +170,11 @@ abbrev pub Inside : ℕ → Nested → Form
 Inside zero x = Never
 Inside (suc n) x = Level (Inside n) x
 
+-- the expression of a filter alone (section 2.3.5.1): the text spells the expression e, with spans s
+-- for its components; blank space may stand around it, as in a query
+abbrev pub SpellsFilter : ℕ → ExprTree → Spans → Text → Type 0
+SpellsFilter n e s text = (Blank ⌢ Expression (Inside n) e ⌢ Blank) s 0 text
+
 -- jsonpath-query (section 2.1.1): the text spells the tree q, with spans s for its components
 pub record Spells (n : ℕ) (q : QueryTree) (s : Spans) (text : Text) : Type 0 where
   pub parts : List SegmentTree

@@ -1,12 +1,11 @@
 -- The whole numbers of queries (RFC 9535 section 2.3.3.1).
-use Rattle.std.specs.Prelude.{◌≡◌, ℕ, ◌^◌, pos, neg_ℤ, Bool, ◌&&◌, nat_le, nat_lt, if◌then◌else◌}
+use Rattle.std.specs.Prelude.{◌≡◌, ℕ, ◌^◌, pos, neg_ℤ, nat_le, nat_lt, if◌then◌else◌}
 use Rattle.std.specs.Prelude.{◌∷◌, codes}
 use Rattle.jp_tree.specs.declared.tree.Numeral.{Numeral}
 use Rattle.jp_tree.specs.declared.tree.Numeral.TheVariants.{Whole, Beyond}
 use Rattle.jp_reading.specs.Texts.{Text, Spans}
 use Rattle.jp_reading.specs.Forms.{Form, word, One, ◌⌢◌, Each}
 use Rattle.jp_reading.specs.Numbers.{is_digit, value_from, is_leading_digit}
-use Rattle.jp_reading.specs.Characters.{digit_one, digit_nine}
 
 -- the whole number of that size, or that it is outside -(2^63) to (2^64)-1
 abbrev pub whole_of : ℕ → Numeral

@@ -8,16 +8,29 @@ ghost use Rattle.jp_tree.specs.Views.{expr_of, operand_of, subject_of};
 ghost use Rattle.jp_query.specs.Private.Parts.{boxed_expr, joined_at, character_of, part_of};
 ghost use Rattle.jp_query.specs.Private.Parts.{several};
 ghost use Rattle.jp_query.specs.Private.Rules as rules;
-ghost use Rattle.jp_query.specs.Private.Reading.{inside, parenthesis_at, read_flat, read_inside};
+ghost use Rattle.jp_query.specs.Private.Reading.{filter_at, inside, parenthesis_at, read_flat, read_inside};
 
 use crate::calls::call;
 use crate::lists::{append_boxed, boxed};
 use crate::names::is_at_function;
 use crate::operators::{is_before_operator, operator};
+use crate::segments::end;
 use crate::sides::{query_within, side};
 use jp_reading::{Reader, Stop};
 use jp_tree::{Expr, Op, Operand, Subject};
 use std::alloc::{AllocError, Global};
+
+/// The whole text of a filter's expression, with blank space around it.
+#[tactic(auto, unfolding(crate::specs::Private::Reading::filter_at, crate::specs::Private::Rules::filter_text))]
+pub(crate) fn filter(reader: &mut Reader, levels: u32) -> Result<Box<Expr>, Stop>
+    ensures { Gives boxed_expr result reader.new (filter_at levels reader.old) }
+{
+    reader.skip();
+    let expr = expression(reader, levels)?;
+    reader.skip();
+    end(reader)?;
+    Ok(expr)
+}
 
 /// An expression after the character that opens it, one level further in than the text around.
 #[cycle(nested)]

@@ -9,7 +9,8 @@
 //!
 //! The contract for the crates above: `parse` answers a query exactly for the texts that spell one
 //! within `LEVEL_LIMIT` levels by the grammar of `specs/Grammar.antt`, with its tree and the spans
-//! of its components; and no text spells two.
+//! of its components; and no text spells two. `parse_filter` does the same for the expression of a
+//! filter alone.
 #![tactic(auto)]
 
 mod calls;
@@ -21,6 +22,7 @@ mod literals;
 mod names;
 mod operators;
 mod parsed;
+mod parsed_filter;
 mod refusal;
 mod segments;
 mod selectors;
@@ -33,4 +35,5 @@ pub use jp_tree::{
     Argument, Call, Expr, Literal, Numeral, Op, Operand, Query, Segment, Selector, Slice, Subject,
 };
 pub use parsed::{LEVEL_LIMIT, Parsed, parse};
+pub use parsed_filter::{ParsedFilter, parse_filter};
 pub use refusal::{Refusal, RefusalKind};

@@ -7,7 +7,7 @@ ghost use Rattle.jp_tree.specs.Tree.{segment, selectors};
 ghost use Rattle.jp_tree.specs.Views.{selector_of, segment_of, query_of};
 ghost use Rattle.jp_query.specs.Private.Rules as rules;
 ghost use Rattle.jp_query.specs.Private.Rules.{begins_segment};
-ghost use Rattle.jp_query.specs.Private.Reading.{query_at, read_flat, read_inside};
+ghost use Rattle.jp_query.specs.Private.Reading.{at_text_end, query_at, read_flat, read_inside};
 
 use crate::lists::append;
 use crate::names::shorthand;
@@ -23,14 +23,22 @@ pub(crate) fn query(reader: &mut Reader, levels: u32) -> Result<Query, Stop>
 {
     reader.expect('$')?;
     let segments = segments(reader, levels)?;
-    if reader.peek().is_some() {
-        reader.skip();
-        return Err(Stop::Syntax(reader.place()));
-    }
+    end(reader)?;
     Ok(Query {
         absolute: true,
         segments,
     })
+}
+
+/// The end of the text; where it goes on, the stop is past the blanks.
+pub(crate) fn end(reader: &mut Reader) -> Result<(), Stop>
+    ensures { Gives (λ d. d) result reader.new (at_text_end tt reader.old) }
+{
+    if reader.peek().is_some() {
+        reader.skip();
+        return Err(Stop::Syntax(reader.place()));
+    }
+    Ok(())
 }
 
 /// Segment after segment, with blank space before each; the reader stays before blank space that

@@ -273,3 +273,9 @@ module _ (I : Nested → Form) where
         to = λ s o t h. disjunction h.part h.same h.is;
         from = λ s o t h. elim h [ disjunction es f g ↦ record { part = es; same = f; is = g } ];
       }
+
+  pub filter-same : (e : ExprTree)
+      → Same (form (opening_form I) rule.filter_text e) (Blank ⌢ Expression I e ⌢ Blank)
+  unfolding rule.filter_text
+  filter-same e =
+      after (then (λ x z. joined (expression-same x) after-value) ⨾ then-only ⨾ made-same)

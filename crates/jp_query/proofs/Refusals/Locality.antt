@@ -1,27 +1,24 @@
--- Reading a query looks at its text from its beginning on, and what comes after the text that it
+-- Reading a whole text looks at it from its beginning on, and what comes after the text that it
 -- looks at changes nothing.
-use Rattle.std.proofs.Common.{◌≡◌, ℕ, zero, suc, ◌≤◌, false, if◌then◌else◌, [], ◌∷◌, ◌++◌, ◌==◌}
+use Rattle.std.proofs.Common.{◌≡◌, ℕ, zero, suc, ◌≤◌, true, false, [], ◌∷◌, ◌++◌, ◌==◌}
 use Rattle.std.proofs.Common.{length, inl, inr, arith}
 use Rattle.std.proofs.lemmas.Bool.{cases_Bool, eqb-true}
 use Rattle.jp_reading.specs.Texts.{Text, Spans}
-use Rattle.jp_reading.specs.Outcome.{State, Outcome, took, stuck, skip, is_end}
+use Rattle.jp_reading.specs.Outcome.{stuck}
 use Rattle.jp_reading.specs.RuleReading.{read}
 use Rattle.jp_reading.proofs.Texts.Chars.{skip-shorter}
 use Rattle.jp_reading.proofs.States.Locality.{all, unblanked, Ends, Agrees, ended, Local}
 use Rattle.jp_reading.proofs.States.Locality.{local-then}
 use Rattle.jp_reading.proofs.States.Locality.{local-deep, local-stuck, local-skip, unblanked-skip}
 use Rattle.jp_reading.proofs.Rules.Locality.{local-rule}
-use Rattle.jp_query.specs.Private.Rules.{QueryOpening, opened, query}
-use Rattle.jp_query.specs.Private.Reading.{inside, query_at}
+use Rattle.jp_reading.specs.Rule.{here, beyond}
+use Rattle.jp_query.specs.Private.Rules.{QueryOpening, QueryRule, opened}
+use Rattle.jp_query.specs.Private.Reading.{inside, at_text_end, whole_at}
 use Rattle.jp_query.proofs.Levels.{inside-progress}
 
 local-inside : (n : ℕ) (o : QueryOpening) → Local all unblanked (inside n o)
 local-inside zero o = local-deep unblanked
 local-inside (suc n) o = local-rule (inside n) (inside-progress n) (local-inside n) (opened o)
-
--- where a query's segments end the text ends too, or there is a stop past the blanks
-at_text_end : {A : Type 0} → A → State → Outcome A
-at_text_end x r = if is_end r then took x r else stuck (skip r)
 
 goes_on : (c : ℕ) (t : Text) → (length (c ∷ t) == 0) ≡ false
 goes_on c t =
@@ -31,7 +28,6 @@ goes_on c t =
     ]
 
 local-text_end : {A : Type 0} (x : A) → Local unblanked all (at_text_end x)
-unfolding at_text_end
 local-text_end {A} x = record {
   ends = λ m p e. comes m p.at p.found p.rest e;
   agrees = λ u p. alike u p.at p.found p.rest;
@@ -55,8 +51,8 @@ local-text_end {A} x = record {
         ((local-skip {A = A} all stuck (local-stuck all)).agrees u
         (record { at = at; rest = c ∷ t; found = found }))
 
-pub local-query : (n : ℕ) → Local all all (query_at n)
-unfolding query_at at_text_end
-local-query n =
-    local-then all unblanked all (read (inside n) query) _
-    (local-rule (inside n) (inside-progress n) (local-inside n) query) (λ q. local-text_end q)
+pub local-whole : {A : Type 0} (rule : QueryRule true here beyond A) (n : ℕ)
+    → Local all all (whole_at rule n)
+local-whole rule n =
+    local-then all unblanked all (read (inside n) rule) _
+    (local-rule (inside n) (inside-progress n) (local-inside n) rule) (λ x. local-text_end x)

@@ -39,7 +39,7 @@ unfolding rule.shorthand rule.unit_after rule.unit rule.surrogates_after rule.he
     rule.selection rule.segment rule.segments rule.query rule.identifier rule.query_within
     rule.word rule.side_within rule.side rule.comparison_with rule.closed rule.subject
     rule.test_expr rule.negated rule.negation_on rule.basic rule.conjunction rule.expression
-    rule.argument_start rule.argument rule.next_argument rule.some_arguments
+    rule.filter_text rule.argument_start rule.argument rule.next_argument rule.some_arguments
     rule.after_parenthesis rule.named_call rule.inside_expression
 all_rules = tt
 
@@ -85,6 +85,10 @@ conjunction-alive = assumption (classes, basic-alive)
 pub expression-alive : Alive rule.expression
 unfolding all_rules
 expression-alive = assumption (classes, conjunction-alive)
+
+pub filter-alive : Alive rule.filter_text
+unfolding all_rules
+filter-alive = assumption (expression-alive)
 
 others-alive : (x : ArgumentTree) (e : ExprTree) → Alive (rule.other_argument_parts x e)
 unfolding all_rules
@@ -209,24 +213,33 @@ opened-alive (rule.name_on other) c h =
 
 -- what ends an expression inside a filter or a parenthesis, and an argument; it may have blanks
 -- before it
-abbrev pub after_expression : Follow
-after_expression = blanked (beginning (ranges (codes ")),,]]")))
+abbrev pub before_closing : Follow
+before_closing = blanked (beginning (ranges (codes ")),,]]")))
+
+-- an expression is ended so, or, where it stands alone, by the end of the text
+data Around : Type 0 where
+  another : Around
+  nothing : Around
+
+abbrev after_expression : Around → Follow
+after_expression another = before_closing
+after_expression nothing = blanked at_end
 
 -- a function expression ends with its closing parenthesis, whatever follows
 abbrev pub closes : rule.QueryOpening → Follow
-closes (rule.expression_after m) = after_expression
+closes (rule.expression_after m) = before_closing
 closes (rule.name_from others) = any
 closes (rule.name_on other) = any
 
 -- what follows a conjunction, a basic expression, and its first side
-abbrev after_conjunction : Follow
-after_conjunction = either_of (blanked (beginning (ranges (codes "||")))) after_expression
+abbrev after_conjunction : Around → Follow
+after_conjunction end = either_of (blanked (beginning (ranges (codes "||")))) (after_expression end)
 
-abbrev after_basic : Follow
-after_basic = either_of (blanked (beginning (ranges (codes "&&")))) after_conjunction
+abbrev after_basic : Around → Follow
+after_basic end = either_of (blanked (beginning (ranges (codes "&&")))) (after_conjunction end)
 
-abbrev after_first : Follow
-after_first = either_of (blanked (beginning (ranges (codes "==!!<<>>")))) after_basic
+abbrev after_first : Around → Follow
+after_first end = either_of (blanked (beginning (ranges (codes "==!!<<>>")))) (after_basic end)
 
 -- what follows a selector: blanks, and another or the end of the brackets
 abbrev after_selector : Follow
@@ -235,14 +248,14 @@ after_selector =
 
 -- ---- each rule is apart
 
-abbrev IsApart : {u : Bool} {a b : Look} {A : Type 0} (r : rule.QueryRule u a b A) → Alive r
+abbrev pub IsApart : {u : Bool} {a b : Look} {A : Type 0} (r : rule.QueryRule u a b A) → Alive r
     → Follow → Type 0
 IsApart r w K = Apart starts closes r w K
 
 -- with what each of them is alive
 all_alive : Unit {0}
 unfolding all_rules selector-alive bracket-alive segment-alive query-alive side-alive
-    comparison-alive compared_or_test-alive basic-alive conjunction-alive expression-alive
+    comparison-alive compared_or_test-alive basic-alive conjunction-alive expression-alive filter-alive
     others-alive argument_on-alive after_parenthesis-alive named_call-alive
 all_alive = tt
 
@@ -258,61 +271,83 @@ pub query-apart : IsApart rule.query query-alive at_end
 unfolding all_alive
 query-apart = assumption (bracket-apart false, bracket-apart true)
 
-first-apart : IsApart rule.side side-alive after_first
+first-apart : (end : Around) → IsApart rule.side side-alive (after_first end)
 unfolding all_alive
-first-apart = assumption (bracket-apart false, bracket-apart true)
+first-apart another = assumption (bracket-apart false, bracket-apart true)
+first-apart nothing = assumption (bracket-apart false, bracket-apart true)
 
-second-apart : IsApart rule.side side-alive after_basic
+second-apart : (end : Around) → IsApart rule.side side-alive (after_basic end)
 unfolding all_alive
-second-apart = assumption (bracket-apart false, bracket-apart true)
+second-apart another = assumption (bracket-apart false, bracket-apart true)
+second-apart nothing = assumption (bracket-apart false, bracket-apart true)
 
-comparison-apart : (first : OperandTree)
-    → IsApart (rule.comparison_with first) (comparison-alive first) after_basic
+comparison-apart : (end : Around) (first : OperandTree)
+    → IsApart (rule.comparison_with first) (comparison-alive first) (after_basic end)
 unfolding all_alive
-comparison-apart first = assumption second-apart
+comparison-apart end first = assumption (second-apart end)
 
-compared_or_test-apart : (first : OperandTree)
-    → IsApart (rule.compared_or_test first) (compared_or_test-alive first) after_basic
+compared_or_test-apart : (end : Around) (first : OperandTree)
+    → IsApart (rule.compared_or_test first) (compared_or_test-alive first) (after_basic end)
 unfolding all_alive
-compared_or_test-apart (literal l) = assumption (comparison-apart (literal l))
-compared_or_test-apart (node_value q) = assumption (comparison-apart (node_value q))
-compared_or_test-apart (call_value c) = assumption (comparison-apart (call_value c))
+compared_or_test-apart another (literal l) = assumption (comparison-apart another (literal l))
+compared_or_test-apart another (node_value q) = assumption (comparison-apart another (node_value q))
+compared_or_test-apart another (call_value c) = assumption (comparison-apart another (call_value c))
+compared_or_test-apart nothing (literal l) = assumption (comparison-apart nothing (literal l))
+compared_or_test-apart nothing (node_value q) = assumption (comparison-apart nothing (node_value q))
+compared_or_test-apart nothing (call_value c) = assumption (comparison-apart nothing (call_value c))
 
 -- what goes on from a first side begins as what follows it
-first-on : (first : OperandTree)
-    → Under (begins starts (rule.compared_or_test first) (compared_or_test-alive first) after_basic)
-    after_first
+first-on : (end : Around) (first : OperandTree)
+    → Under (begins starts (rule.compared_or_test first) (compared_or_test-alive first) (after_basic end))
+    (after_first end)
 unfolding all_alive
-first-on (literal l) = under-computed _ _ refl
-first-on (node_value q) = under-computed _ _ refl
-first-on (call_value c) = under-computed _ _ refl
+first-on another (literal l) = under-computed _ _ refl
+first-on another (node_value q) = under-computed _ _ refl
+first-on another (call_value c) = under-computed _ _ refl
+first-on nothing (literal l) = under-computed _ _ refl
+first-on nothing (node_value q) = under-computed _ _ refl
+first-on nothing (call_value c) = under-computed _ _ refl
 
-basic-apart : IsApart rule.basic basic-alive after_basic
+basic-apart : (end : Around) → IsApart rule.basic basic-alive (after_basic end)
 unfolding all_alive
-basic-apart =
+basic-apart another =
     assumption (
       bracket-apart false,
       bracket-apart true,
-      first-apart,
-      compared_or_test-apart,
-      first-on,
+      first-apart another,
+      compared_or_test-apart another,
+      first-on another,
+    )
+basic-apart nothing =
+    assumption (
+      bracket-apart false,
+      bracket-apart true,
+      first-apart nothing,
+      compared_or_test-apart nothing,
+      first-on nothing,
     )
 
-conjunction-apart : IsApart rule.conjunction conjunction-alive after_conjunction
+conjunction-apart : (end : Around) → IsApart rule.conjunction conjunction-alive (after_conjunction end)
 unfolding all_alive
-conjunction-apart = assumption basic-apart
+conjunction-apart another = assumption (basic-apart another)
+conjunction-apart nothing = assumption (basic-apart nothing)
 
-expression-apart : IsApart rule.expression expression-alive after_expression
+expression-apart : (end : Around) → IsApart rule.expression expression-alive (after_expression end)
 unfolding all_alive
-expression-apart = assumption conjunction-apart
+expression-apart another = assumption (conjunction-apart another)
+expression-apart nothing = assumption (conjunction-apart nothing)
+
+pub filter-apart : IsApart rule.filter_text filter-alive at_end
+unfolding all_alive
+filter-apart = assumption (expression-apart nothing, under-computed)
 
 others-apart : (x : ArgumentTree) (e : ExprTree)
-    → IsApart (rule.other_argument_parts x e) (others-alive x e) after_expression
+    → IsApart (rule.other_argument_parts x e) (others-alive x e) before_closing
 unfolding all_alive
-others-apart x e = assumption (basic-apart, conjunction-apart)
+others-apart x e = assumption (basic-apart another, conjunction-apart another)
 
 argument_on-apart : (x : ArgumentTree)
-    → IsApart (rule.argument_on x) (argument_on-alive x) after_expression
+    → IsApart (rule.argument_on x) (argument_on-alive x) before_closing
 unfolding all_alive
 argument_on-apart (literal_argument l) = tt
 argument_on-apart (query_argument q) = others-apart (query_argument q) (exists q)
@@ -320,7 +355,7 @@ argument_on-apart (call_argument c) = others-apart (call_argument c) (call_test 
 argument_on-apart (logical_argument e) = others-apart (logical_argument e) e
 
 argument-on : (x : ArgumentTree)
-    → Under (begins starts (rule.argument_on x) (argument_on-alive x) after_expression) after_basic
+    → Under (begins starts (rule.argument_on x) (argument_on-alive x) before_closing) (after_basic another)
 unfolding all_alive
 argument-on (literal_argument l) = under-computed _ _ refl
 argument-on (query_argument q) = under-computed _ _ refl
@@ -333,8 +368,8 @@ after_parenthesis-apart =
     assumption (
       bracket-apart false,
       bracket-apart true,
-      first-apart,
-      comparison-apart,
+      first-apart another,
+      comparison-apart another,
       argument_on-apart,
       argument-on,
     )
@@ -342,6 +377,6 @@ after_parenthesis-apart =
 pub opened-apart : (o : rule.QueryOpening) (c : ℕ) (h : opens o c ≡ true)
     → IsApart (rule.opened o) (opened-alive o c h) (closes o)
 unfolding all_alive opened-alive
-opened-apart (rule.expression_after m) c h = assumption expression-apart
+opened-apart (rule.expression_after m) c h = assumption (expression-apart another)
 opened-apart (rule.name_from others) c h = assumption after_parenthesis-apart
 opened-apart (rule.name_on other) c h = assumption after_parenthesis-apart

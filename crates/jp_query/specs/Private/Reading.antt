@@ -1,13 +1,13 @@
 -- What the reader of queries does, at each number of levels, and with a whole text.
-use Rattle.std.specs.Prelude.{ℕ, Bool, zero, suc, if◌then◌else◌}
+use Rattle.std.specs.Prelude.{ℕ, Bool, true, zero, suc, if◌then◌else◌}
 use Rattle.jp_reading.specs.Outcome.{State, Outcome, took, stuck, deep, ◌>>=◌, skip, is_end}
-use Rattle.jp_reading.specs.Rule.{Look}
+use Rattle.jp_reading.specs.Rule.{Look, here, beyond}
 use Rattle.jp_reading.specs.RuleReading.{InnerReader, nothing, read}
 use Rattle.jp_tree.specs.Tree.{QueryTree, ExprTree}
 use Rattle.jp_reading.specs.Characters.{opening_parenthesis}
 use Rattle.jp_query.specs.Private.Rules.{nesting, QueryRule, expression_after, CallRest, any_call}
 use Rattle.jp_query.specs.Private.Rules.{closed}
-use Rattle.jp_query.specs.Private.Rules.{opened, query}
+use Rattle.jp_query.specs.Private.Rules.{opened, query, filter_text}
 
 -- how what opens a level is read inside n levels. With no level left, one more would be needed at
 -- the opening.
@@ -33,7 +33,18 @@ call_inside (suc n) p = read (inside n) any_call p
 abbrev pub parenthesis_at : ℕ → State → Outcome ExprTree
 parenthesis_at n p = inside n (expression_after opening_parenthesis) p >>= λ e q. read_inside n (closed e) q
 
--- a whole query: the text ends after its segments; at what else comes there reading is stuck, past
--- the blanks
+-- what was read ends with the text; at what else comes there reading is stuck, past the blanks
+abbrev pub at_text_end : {A : Type 0} → A → State → Outcome A
+at_text_end x r = if is_end r then took x r else stuck (skip r)
+
+-- a whole text of the rule
+abbrev pub whole_at : {A : Type 0} → QueryRule true here beyond A → ℕ → State → Outcome A
+whole_at rule n p = read (inside n) rule p >>= at_text_end
+
+-- a whole query
 unfoldable pub query_at : ℕ → State → Outcome QueryTree
-query_at n p = read (inside n) query p >>= λ q r. if is_end r then took q r else stuck (skip r)
+query_at = whole_at query
+
+-- the whole text of a filter's expression
+unfoldable pub filter_at : ℕ → State → Outcome ExprTree
+filter_at = whole_at filter_text

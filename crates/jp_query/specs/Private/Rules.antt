@@ -458,9 +458,17 @@ parts c rule = rule >>= λ x. made (λ xs. x ∷ xs) (other_parts c rule)
 unfoldable pub conjunction : QueryRule true here beyond ExprTree
 conjunction = made (joined all_of) (parts ampersand basic)
 
+-- the expression, after which blanks may stand
+abbrev pub ended_by_blanks : ExprTree → QueryRule false beyond here ExprTree
+ended_by_blanks e = blanks {m = beyond} >> value {m = here} e
+
 -- logical-or-expr
 unfoldable pub expression : QueryRule true here beyond ExprTree
 expression = made (joined any_of) (parts bar conjunction)
+
+-- the expression of a filter alone, with blanks around it
+unfoldable pub filter_text : QueryRule true here beyond ExprTree
+filter_text = relaxed (blanks {m = here} >> (expression >>= ended_by_blanks))
 
 -- ---- arguments of functions (section 2.4)
 

@@ -5,6 +5,7 @@ use Rattle.jp_tree.specs.Views.{query_of}
 use Rattle.jp_query.specs.Grammar.{Spells}
 use Rattle.jp_query.specs.Private.Reading.{query_at}
 use Rattle.jp_query.proofs.Soundness.Whole.{read-spells}
+use Rattle.jp_query.proofs.WholeRules.{queries}
 use Rattle.jp_query.proofs.Refusals.Refused.{refused-only, refused-kinds, refused-syntax}
 use Rattle.jp_query.proofs.Refusals.Refused.{refused-deep}
 use Rattle.jp_query.proofs.parsed.parse.Goals as goal
@@ -24,19 +25,22 @@ invariant_of-result c =
     (chars c.args.text.now, spells)
 
 pub returns-in-Err-clause-only : goal.returns-in-Err-clause-only
+unfolding query_at
 returns-in-Err-clause-only c =
-    rw c.from.ensures (refused-only level_limit
+    rw c.from.ensures (refused-only queries level_limit
     (chars c.args.text.now) c.new-reader.result c.in-Err.stop c.new-reader.ensures c.in-Err.ensures)
 
 pub returns-in-Err-clause-kinds : goal.returns-in-Err-clause-kinds
 returns-in-Err-clause-kinds c = rw c.from.ensures (refused-kinds c.in-Err.stop)
 
 pub returns-in-Err-clause-syntax : goal.returns-in-Err-clause-syntax
+unfolding query_at
 returns-in-Err-clause-syntax c =
-    rw c.from.ensures (refused-syntax level_limit
+    rw c.from.ensures (refused-syntax queries level_limit
     (chars c.args.text.now) c.new-reader.result c.in-Err.stop c.new-reader.ensures c.in-Err.ensures)
 
 pub returns-in-Err-clause-deep : goal.returns-in-Err-clause-deep
+unfolding query_at
 returns-in-Err-clause-deep c =
-    rw c.from.ensures (refused-deep level_limit
+    rw c.from.ensures (refused-deep queries level_limit
     (chars c.args.text.now) c.new-reader.result c.in-Err.stop c.new-reader.ensures c.in-Err.ensures)
