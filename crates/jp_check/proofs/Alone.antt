@@ -17,18 +17,19 @@ use Rattle.jp_query.specs.Components.{components_of}
 use Rattle.jp_query.specs.Grammar.{Spells}
 use Rattle.jp_query.specs.Levels.{level_limit}
 use Rattle.jp_query.specs.Laws.{OneReading, IsParseRefusal, OneRefusal}
-use Rattle.jp_query.specs.Spelled.{SpellsNothing}
+use Rattle.jp_query.specs.Spelled.{Spelling, SpellsNothing}
 use Rattle.jp_query.specs.Refusal.{number_of}
 use Rattle.jp_tree.specs.Tree.{QueryTree, call}
 use Rattle.jp_check.specs.Accepted.{IsAcceptedAs, IsNotAccepted}
 use Rattle.jp_check.specs.declared.functions.DataType.{DataType}
 use Rattle.jp_check.specs.declared.profile.Profile.{Profile}
-use Rattle.jp_check.specs.Faults.{HasCallFault, HasFault}
+use Rattle.jp_check.specs.Faults.{AreFaultless, HasCallFault, HasFault}
 use Rattle.jp_check.specs.First.{IsComponentFault, IsNoLater, IsFirstFault}
 use Rattle.jp_check.specs.Functions.{Signature, signature_named}
 use Rattle.jp_check.specs.Types.{wanted}
 use Rattle.jp_check.specs.Laws.{OneAnswer}
-use Rattle.jp_check.specs.Refused.{IsFaulty, RefusalSays, IsRefused, IsRefusedForItself}
+use Rattle.jp_check.specs.Refused.{Faulty, Says, IsFaulty, RefusalSays, IsRefused}
+use Rattle.jp_check.specs.Refused.{IsRefusedForItself}
 use Rattle.jp_check.proofs.Least.{NoFault, of-cons, of-component, of-none, found}
 use Rattle.jp_check.specs.Private.Inspection.{Progress, past_components}
 use Rattle.jp_query.proofs.ComponentSpans.{spans-of_components}
@@ -98,6 +99,58 @@ no_fault profile (x ∷ xs) (span ∷ spans) f all h =
       | inr q ↦ no_fault profile xs spans f (All-tail (NoFault profile) x xs all) q
     ]
 
+-- ---- a first fault refuses the text
+
+-- none of the kinds that are no faults of components
+abbrev HasNone : (RefusalKind → Type 0) → Type 0
+HasNone Has = (Has Syntax → ⊥) × (Has TooDeep → ⊥) × (Has NoMemory → ⊥) × (Has TextTooLong → ⊥)
+
+call-none : (function : Option Signature) (given : ℕ) (want : Option DataType)
+    → HasNone (HasCallFault function given want)
+call-none None given want = (λ h. h, λ h. h, λ h. h, λ h. h)
+call-none (Some function) given want = (λ h. h, λ h. h, λ h. h, λ h. h)
+
+component-none : (profile : Profile) (x : QueryComponent) → HasNone (HasFault profile x)
+component-none profile (int n role) = (λ h. h, λ h. h, λ h. h, λ h. h)
+component-none profile (constant l role) = (λ h. h, λ h. h, λ h. h, λ h. h)
+component-none profile (inner q role) = (λ h. h, λ h. h, λ h. h, λ h. h)
+component-none profile (called (call name all) role) =
+    call-none (signature_named profile name) (count all) (wanted profile role)
+component-none profile (logical e role) = (λ h. h, λ h. h, λ h. h, λ h. h)
+
+module _ {A : Type 0} (Spelt : Spelling A) (limit : ℕ) (components : A → List QueryComponent) where
+  pub faulty-refused : (profile : Profile) (text : Text) (kind : RefusalKind) (place : ℕ)
+      → Faulty Spelt limit components profile text (record { kind = kind; place = place })
+      → Says Spelt limit components profile text kind place
+  faulty-refused profile text Syntax place h =
+      absurd ((component-none profile h.first.is.component).0 h.first.is.kind)
+  faulty-refused profile text TooDeep place h =
+      absurd ((component-none profile h.first.is.component).1 h.first.is.kind)
+  faulty-refused profile text NoMemory place h =
+      absurd ((component-none profile h.first.is.component).2 h.first.is.kind)
+  faulty-refused profile text TextTooLong place h =
+      absurd ((component-none profile h.first.is.component).3 h.first.is.kind)
+  faulty-refused profile text kind place h = h
+
+  pub first-refused : {T : Type 0} (profile : Profile) (text : Text) (x : A) (spans : Spans)
+      (result : Result T Refusal) → Spelt limit x spans text
+      → IfErr result (IsFirstFault profile (components x) spans)
+      → IfErr result (λ r. Says Spelt limit components profile text r.kind r.place)
+  first-refused profile text x spans (Ok y) h e = tt
+  first-refused profile text x spans (Err r) h e =
+      faulty-refused profile text r.kind r.place
+      (record { tree = x; spans = spans; spelled = h; first = e })
+
+  -- where a text spells one tree, one without faults has no first one
+  pub faultless-faulty : ((x y : A) (s t : Spans) (text : Text) → Spelt limit x s text
+      → Spelt limit y t text → (x ≡ y) × (s ≡ t)) → (profile : Profile) (text : Text) (x : A)
+      (spans : Spans) (r : Refusal) → Spelt limit x spans text
+      → AreFaultless profile (components x)
+      → Faulty Spelt limit components profile text r → ⊥
+  faultless-faulty one profile text x spans r spelled faultless b =
+      let same = one x b.tree spans b.spans text spelled b.spelled in
+      no_fault profile (components x) spans r faultless (rw (same.0, same.1) b.first.is)
+
 -- ---- refusals exclude each other
 
 faults-same : (profile : Profile) → OneReading → (text : Text) (r f : Refusal)
@@ -110,8 +163,8 @@ not-faulty : (profile : Profile) → OneReading → (text : Text) (q : QueryTree
     → IsAcceptedAs profile text q
     → IsFaulty profile text r → ⊥
 not-faulty profile one text q r a b =
-    let same = one level_limit level_limit q b.tree a.spans b.spans text a.spelled b.spelled in
-    no_fault profile (components_of q) a.spans r a.faultless (rw (same.0, same.1) b.first.is)
+    faultless-faulty Spells level_limit components_of (one level_limit level_limit) profile text q
+    a.spans r a.spelled a.faultless b
 
 -- why a text is refused: out of memory, that it is no query, or a fault
 data Why (profile : Profile) (text : Text) (r : Refusal) : Type 0 where
@@ -174,54 +227,14 @@ refused-result profile one once text (Ok x) h = tt
 refused-result profile one once text (Err r) h =
     refused-only profile one once text r (why profile text r.kind r.place h)
 
--- ---- a first fault refuses the text
-
--- none of the kinds that are no faults of components
-abbrev HasNone : (RefusalKind → Type 0) → Type 0
-HasNone Has = (Has Syntax → ⊥) × (Has TooDeep → ⊥) × (Has NoMemory → ⊥) × (Has TextTooLong → ⊥)
-
-call-none : (function : Option Signature) (given : ℕ) (want : Option DataType)
-    → HasNone (HasCallFault function given want)
-call-none None given want = (λ h. h, λ h. h, λ h. h, λ h. h)
-call-none (Some function) given want = (λ h. h, λ h. h, λ h. h, λ h. h)
-
-component-none : (profile : Profile) (x : QueryComponent) → HasNone (HasFault profile x)
-component-none profile (int n role) = (λ h. h, λ h. h, λ h. h, λ h. h)
-component-none profile (constant l role) = (λ h. h, λ h. h, λ h. h, λ h. h)
-component-none profile (inner q role) = (λ h. h, λ h. h, λ h. h, λ h. h)
-component-none profile (called (call name all) role) =
-    call-none (signature_named profile name) (count all) (wanted profile role)
-component-none profile (logical e role) = (λ h. h, λ h. h, λ h. h, λ h. h)
-
-faulty-refused : (profile : Profile) (text : Text) (kind : RefusalKind) (place : ℕ)
-    → IsFaulty profile text (record { kind = kind; place = place })
-    → RefusalSays profile text kind place
-faulty-refused profile text Syntax place h =
-    absurd ((component-none profile h.first.is.component).0 h.first.is.kind)
-faulty-refused profile text TooDeep place h =
-    absurd ((component-none profile h.first.is.component).1 h.first.is.kind)
-faulty-refused profile text NoMemory place h =
-    absurd ((component-none profile h.first.is.component).2 h.first.is.kind)
-faulty-refused profile text TextTooLong place h =
-    absurd ((component-none profile h.first.is.component).3 h.first.is.kind)
-faulty-refused profile text kind place h = h
-
 refused-for_itself : (profile : Profile) (text : Text) (kind : RefusalKind) (place : ℕ)
     → IsFaulty profile text (record { kind = kind; place = place })
     → IsRefusedForItself profile text (record { kind = kind; place = place })
 refused-for_itself profile text kind place h = (
-  faulty-refused profile text kind place h,
+  faulty-refused Spells level_limit components_of profile text kind place h,
   λ e. (component-none profile h.first.is.component).2
       (subst (HasFault profile h.first.is.component) e h.first.is.kind),
 )
-
-pub first-refused : {T : Type 0} (profile : Profile) (text : Text) (q : QueryTree) (spans : Spans)
-    (result : Result T Refusal) → Spells level_limit q spans text
-    → IfErr result (IsFirstFault profile (components_of q) spans) → IfErr result (IsRefused profile text)
-first-refused profile text q spans (Ok x) h e = tt
-first-refused profile text q spans (Err r) h e =
-    faulty-refused profile text r.kind r.place
-    (record { tree = q; spans = spans; spelled = h; first = e })
 
 -- ---- each text has one answer
 

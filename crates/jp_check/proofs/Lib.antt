@@ -1,6 +1,7 @@
 pub mod Alone
 pub mod Calls
 pub mod Extended
+pub mod Filters
 pub mod FunctionNames
 pub mod Least
 pub mod OwnFault

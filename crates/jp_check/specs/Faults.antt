@@ -1,5 +1,5 @@
 -- The faults of a query's components (RFC 9535 sections 2.1, 2.3.5.1 and 2.4.3).
-use Rattle.std.specs.Prelude.{◌≡◌, ◌==◌, ℕ, false, Option, Some, None, length}
+use Rattle.std.specs.Prelude.{◌≡◌, ◌==◌, ℕ, false, List, Option, Some, None, length}
 use Rattle.std.specs.List.{All}
 use Rattle.jp_query.specs.declared.refusal.RefusalKind.{RefusalKind}
 use Rattle.jp_query.specs.declared.refusal.RefusalKind.TheVariants.{NotWhole, NumberRange}
@@ -8,9 +8,9 @@ use Rattle.jp_query.specs.declared.refusal.RefusalKind.TheVariants.{ArgumentCoun
 use Rattle.jp_query.specs.declared.refusal.RefusalKind.TheVariants.{IllTyped}
 use Rattle.jp_tree.specs.declared.tree.Numeral.TheVariants.{Beyond, Fraction}
 use Rattle.jp_query.specs.Components.{QueryComponent, int, constant, inner, called, logical, count}
-use Rattle.jp_query.specs.Components.{components_of}
+use Rattle.jp_query.specs.Components.{components_of, expr_components}
 use Rattle.jp_tree.specs.Singular.{is_singular}
-use Rattle.jp_tree.specs.Tree.{QueryTree, number, call}
+use Rattle.jp_tree.specs.Tree.{ExprTree, QueryTree, number, call}
 use Rattle.jp_check.specs.declared.functions.DataType.{DataType}
 use Rattle.jp_check.specs.declared.functions.DataType.TheVariants.{Value, Logical}
 use Rattle.jp_check.specs.declared.profile.Profile.{Profile}
@@ -44,7 +44,15 @@ HasFault profile (called (call name all) role) kind =
 HasFault profile (logical _ role) IllTyped = IsMisfit Logical (wanted profile role)
 HasFault profile _ _ = ⊥
 
+-- none of the components has a fault
+abbrev pub AreFaultless : Profile → List QueryComponent → Type 0
+AreFaultless profile components =
+    All (λ component. (kind : RefusalKind) → ¬ HasFault profile component kind) components
+
 -- no component of the query has a fault
 abbrev pub IsFaultless : Profile → QueryTree → Type 0
-IsFaultless profile q =
-    All (λ component. (kind : RefusalKind) → ¬ HasFault profile component kind) (components_of q)
+IsFaultless profile q = AreFaultless profile (components_of q)
+
+-- no component of the expression of a filter has a fault
+abbrev pub IsFaultlessFilter : Profile → ExprTree → Type 0
+IsFaultlessFilter profile e = AreFaultless profile (expr_components e)

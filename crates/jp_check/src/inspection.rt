@@ -9,7 +9,7 @@ ghost use Rattle.jp_tree.specs.Tree.{exprs};
 ghost use Rattle.jp_tree.specs.Views.{argument_of, call_of, expr_of, operand_of, query_of};
 ghost use Rattle.jp_tree.specs.Tree.{slice as slice_tree};
 ghost use Rattle.jp_tree.specs.Views.{segment_of, selector_of, subject_of};
-ghost use Rattle.jp_check.specs.Faults.{IsFaultless};
+ghost use Rattle.jp_check.specs.Faults.{IsFaultless, IsFaultlessFilter};
 ghost use Rattle.jp_check.specs.First.{IsFirstFault};
 ghost use Rattle.jp_check.specs.Private.Inspection.{earlier, fault_of_call, fault_of_int, fault_of_query};
 ghost use Rattle.jp_check.specs.Private.Inspection.{is_before, past_argument, past_component, past_components};
@@ -19,7 +19,7 @@ use crate::faults::{
 };
 use crate::functions::{DataType, wanted_of_arguments};
 use crate::profile::Profile;
-use jp_query::{Parsed, Refusal, RefusalKind, Span};
+use jp_query::{Parsed, ParsedFilter, Refusal, RefusalKind, Span};
 use jp_tree::{Argument, Call, Expr, Numeral, Operand, Query, Segment, Selector, Slice, Subject};
 use std::marker::Model;
 
@@ -31,6 +31,17 @@ pub(crate) fn first_fault(parsed: &Parsed, profile: Profile) -> Option<Refusal>
 {
     let mut inspection = Inspection::new(parsed.spans(), profile);
     inspection.query(parsed.query());
+    inspection.first()
+}
+
+/// The first fault of a filter's expression in a profile, if it has one.
+pub(crate) fn first_filter_fault(parsed: &ParsedFilter, profile: Profile) -> Option<Refusal>
+    ensures { MatchOption result
+        (IsFaultlessFilter profile (expr_of parsed.now.expr))
+        (IsFirstFault profile (expr_components (expr_of parsed.now.expr)) parsed.now.spans) }
+{
+    let mut inspection = Inspection::new(parsed.spans(), profile);
+    inspection.expr(parsed.expr());
     inspection.first()
 }
 

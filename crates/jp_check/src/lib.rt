@@ -15,11 +15,12 @@
 //!
 //! The contract for the crates above: `read_query` answers a tree exactly for the texts that are
 //! accepted as it in the profile, by `specs/Accepted.antt`; each other text is refused as the
-//! parser refuses it, or with its first fault. What is accepted in `Standard` is accepted in
-//! `Extended`.
+//! parser refuses it, or with its first fault. `read_filter` does the same with the expression of a
+//! filter alone. What is accepted in `Standard` is accepted in `Extended`.
 #![tactic(auto)]
 
 mod checked;
+mod checked_filter;
 mod faults;
 mod functions;
 mod inspection;
@@ -29,5 +30,6 @@ mod ranges;
 mod singular;
 
 pub use checked::{Checked, check, read_query};
+pub use checked_filter::{CheckedFilter, read_filter};
 pub use jp_tree::Function;
 pub use profile::Profile;

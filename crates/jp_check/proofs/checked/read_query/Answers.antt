@@ -1,6 +1,9 @@
 use Rattle.std.proofs.Common.{IfErr, arith}
 use Rattle.std.proofs.lemmas.Grind.{common_steps}
 use Rattle.std.specs.Str.{chars}
+use Rattle.jp_query.specs.Components.{components_of}
+use Rattle.jp_query.specs.Grammar.{Spells}
+use Rattle.jp_query.specs.Levels.{level_limit}
 use Rattle.jp_query.proofs.OneRefusal.{one-refusal}
 use Rattle.jp_query.proofs.Unique.{one-reading}
 use Rattle.jp_tree.specs.Views.{query_of}
@@ -18,7 +21,7 @@ returns-in_err-parsed-clause-only c =
 
 pub returns-clause-refused : goal.returns-clause-refused
 returns-clause-refused c =
-    first-refused c.args.profile (chars c.args.text.now)
+    first-refused Spells level_limit components_of c.args.profile (chars c.args.text.now)
     (query_of c.in_ok-parsed.parsed.query) c.in_ok-parsed.parsed.spans c.check.result
     c.in_ok-parsed.ensures.found c.check.ensures.first
 
