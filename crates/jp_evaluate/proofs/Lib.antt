@@ -1,3 +1,4 @@
+pub mod Handed
 pub mod Matching
 pub mod Nodelists
 pub mod Parts

@@ -10,7 +10,8 @@
 //! The contract for the crates above: `nodes` gives the nodes of the query's nodelist, by
 //! `specs/Nodelist.antt` and, for what functions answer, `specs/Functions.antt`, in order and with
 //! repeats, one at a time, and `evaluate` collects them; `lent_nodes` gives them of a value in
-//! whatever form it is lent. `named_location` tells the location that a query names, whatever the
+//! whatever form it is lent. `holds_of` tells whether a filter's expression is true of a whole document.
+//! `named_location` tells the location that a query names, whatever the
 //! document, by `specs/Named.antt`. By `laws` the normalized path of a node of a document, read as a
 //! query, selects that node alone, a query selects nodes of the document alone, and a singular one
 //! at most one. Nothing that they give depends on a query's profile: one without `distinct` means
@@ -38,6 +39,7 @@ mod selecting;
 mod settled;
 mod singular;
 mod tally;
+mod truth;
 mod walk;
 
 pub use each::Nodes;
@@ -46,4 +48,5 @@ pub use evaluation_fault::EvaluationFault;
 pub use lent::{LentNodes, lent_nodes, lent_nodes_in, lent_nodes_with};
 pub use named::{name_location, named_location};
 pub use pattern::Patterns;
+pub use truth::holds_of;
 pub use walk::Frame;

@@ -2,6 +2,7 @@
 mod places;
 mod settled;
 mod steps;
+mod truth;
 
 use jp_check::{Profile, read_query};
 use jp_document::path_text;
