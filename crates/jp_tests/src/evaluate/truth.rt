@@ -1,7 +1,7 @@
 //! The truth of filters' expressions over whole documents.
 
-use jp_evaluate::{EvaluationFault, Patterns, holds_of};
 use jp_check::{Profile, read_filter};
+use jp_evaluate::{EvaluationFault, Patterns, holds_of};
 use jp_held::Document;
 use jp_match::Marks;
 use jp_select::Steps;
