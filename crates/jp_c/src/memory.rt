@@ -28,7 +28,6 @@ pub(crate) struct Walking {
     path: String,
     frames: Option<Box<Frames<'static>, Global>>,
     location: Option<Box<Vec<Step<'static>>, Global>>,
-    front: Option<Box<Vec<Step<'static>>, Global>>,
 }
 
 /// The memory while an evaluation uses it, and the boxes that it goes back into.
@@ -36,8 +35,6 @@ pub(crate) struct Walking {
 pub(crate) struct Walk<'d> {
     pub(crate) rooms: Rooms<'d, FlatValue<'d, 'd>>,
     frames: Box<Frames<'d>, Global>,
-    location: Box<Vec<Step<'d>>, Global>,
-    front: Box<Vec<Step<'d>>, Global>,
 }
 
 impl Memory {
@@ -51,7 +48,6 @@ impl Memory {
                 path: String::new(alloc),
                 frames: None,
                 location: None,
-                front: None,
             },
         }
     }
@@ -70,39 +66,21 @@ impl Walking {
     /// The memory for an evaluation.
     pub(crate) fn open<'d>(&mut self, alloc: Global) -> Result<Walk<'d>, AllocError> {
         let mut frames: Box<Frames<'d>, Global> = frames_again(boxed(alloc, self.frames.take())?);
-        let mut location = steps_again(boxed(alloc, self.location.take())?);
-        let mut front = steps_again(boxed(alloc, self.front.take())?);
         let rooms = Rooms {
             patterns: mem::replace(&mut self.patterns, Patterns::new(alloc)),
             frames: taken_out(alloc, &mut frames),
-            location: taken_out(alloc, &mut location),
-            front: taken_out(alloc, &mut front),
             path: mem::replace(&mut self.path, String::new(alloc)),
         };
-        Ok(Walk {
-            rooms,
-            frames,
-            location,
-            front,
-        })
+        Ok(Walk { rooms, frames })
     }
 
     /// The memory after an evaluation.
     pub(crate) fn close(&mut self, walk: Walk<'_>) {
-        let Walk {
-            rooms,
-            mut frames,
-            mut location,
-            mut front,
-        } = walk;
+        let Walk { rooms, mut frames } = walk;
         *frames = rooms.frames;
-        *location = rooms.location;
-        *front = rooms.front;
         self.patterns = rooms.patterns;
         self.path = rooms.path;
         self.frames = Some(frames_again(frames));
-        self.location = Some(steps_again(location));
-        self.front = Some(steps_again(front));
     }
 
     /// The memory for a location alone.

@@ -1,64 +1,80 @@
--- What paths begin with, step by step.
-use Rattle.std.proofs.Common.{◌≡◌, List, [], ◌∷◌, ◌++◌, true, refl, ap, ap₂, sym, ◌∙◌, length, map}
-use Rattle.std.proofs.Common.{ℕ, ◌+◌, ◌<◌, ◌≤◌, take, drop, get_or, append_assoc, rules, true≢false}
+-- What paths begin with, value by value on the way.
+use Rattle.std.proofs.Common.{◌≡◌, ℕ, zero, suc, ◌+◌, ◌<◌, ◌≤◌, List, [], ◌∷◌, ◌++◌, Option, Some, None}
+use Rattle.std.proofs.Common.{take, length, map, refl, ap, ap₂, sym, ◌∙◌, arith, string_bytes}
+use Rattle.std.proofs.Common.{inl, inr, subst}
+use Rattle.std.proofs.lemmas.Bool.{cases_lt}
 use Rattle.std.proofs.lemmas.Grind.{flat_map-append}
-use Rattle.std.proofs.lemmas.List.{append-nil, drop_more, map-append, take-append-drop}
-use Rattle.std.proofs.Math.ListN.{drop_of_length-le}
-use Rattle.std.proofs.lemmas.Slice.Eq.{bytes_eq-Decides}
-use Rattle.std.specs.Cmp.{first_so, second_so}
-use Rattle.std.specs.Cmp.Lexicographic.{pointwise}
-use Rattle.std.specs.List.{flat_map}
-use Rattle.jp_document.specs.Location.{Location, step_of, named}
+use Rattle.std.proofs.lemmas.List.{append-nil}
+use Rattle.std.proofs.lemmas.Option.{same_Some}
+use Rattle.std.specs.List.{flat_map, slice_get}
 use Rattle.jp_document.specs.Path.{step_text}
-use Rattle.jp_document.specs.contracts.location.StepPartialEq.TheImpl.{ghosts as steps}
 use Rattle.jp_document.specs.declared.location.Step.{Step}
-use Rattle.jp_document.specs.declared.location.Step.TheVariants.{Name, Index}
+use Rattle.jp_evaluate.specs.Lent.{KeepsWay, kept_of, location_of, way_of}
+use Rattle.jp_evaluate.specs.declared.lent.LentNodes.{LentNodes}
+use Rattle.jp_command.specs.Private.Fronts.{Follows, HasPathText, way_text}
+use Rattle.jp_command.specs.declared.front.Front.{Front}
 
--- one step more is kept
-pub spelled_more : (ks : List Step) (s : Step) (text : List ℕ)
-    → text ≡ flat_map step_text (map step_of ks)
-    → text ++ step_text (step_of s) ≡ flat_map step_text (map step_of (ks ++ s ∷ []))
-spelled_more ks s text before =
-    ap₂ (λ t u. t ++ u) before (sym (append-nil (step_text (step_of s))))
-    ∙ sym (flat_map-append step_text (map step_of ks) (step_of s ∷ []))
-    ∙ ap (flat_map step_text) (sym (map-append step_of ks (s ∷ [])))
+take_less : {X : Type 0} (k n : ℕ) (xs : List X) → k ≤ n → take k (take n xs) ≡ take k xs
+take_less zero n [] less = refl
+take_less zero zero (x ∷ xs) less = refl
+take_less zero (suc n) (x ∷ xs) less = refl
+take_less (suc k) zero xs less = absurd (omega arith)
+take_less (suc k) (suc n) [] less = refl
+take_less (suc k) (suc n) (x ∷ xs) less = ap (λ ys. x ∷ ys) (take_less k n xs (omega arith))
 
-pub left_after : (ks rest : List Step) (i : ℕ) (s : Step) (all : Location) → i < length rest
-    → map step_of ks ++ map step_of (drop i rest) ≡ all
-    → map step_of (ks ++ get_or rest i s ∷ []) ++ map step_of (drop (i + 1) rest) ≡ all
-left_after ks rest i s all within before =
-    ap (λ l. l ++ map step_of (drop (i + 1) rest)) (map-append step_of ks (get_or rest i s ∷ []))
-    ∙ append_assoc (map step_of ks) _ _
-    ∙ ap (λ l. map step_of ks ++ map step_of l) (sym (drop_more rest i s within))
-    ∙ before
+-- what was spelled is still there where it is kept
+pub comes : {V M : Type 0} (f : Front) (v w : LentNodes V M) → HasPathText f v → KeepsWay v w → Follows f w
+comes f v w has keeps less =
+    has
+    ∙ ap way_text
+    (sym (take_less f.count (kept_of w) (way_of v) less)
+    ∙ ap (take f.count) (sym keeps)
+    ∙ take_less f.count (kept_of w) (way_of w) less)
 
--- no step is left
-pub all_kept : (ks rest : List Step) (i : ℕ) (all : Location) → length rest ≤ i
-    → map step_of ks ++ map step_of (drop i rest) ≡ all → map step_of ks ≡ all
-all_kept ks rest i all past before =
-    sym (append-nil (map step_of ks))
-    ∙ ap (λ l. map step_of ks ++ map step_of l) (sym (drop_of_length-le rest past))
-    ∙ before
+take_nothing : {X : Type 0} (xs : List X) → take 0 xs ≡ []
+take_nothing [] = refl
+take_nothing (x ∷ xs) = refl
 
-step_same : (s t : Step) → steps.eq s t ≡ true → step_of s ≡ step_of t
-step_same (Name s) (Name t) e = ap named ((bytes_eq-Decides s.now t.now).0 e)
-step_same (Name s) (Index j) e = absurd (true≢false (sym e))
-step_same (Index i) (Name t) e = absurd (true≢false (sym e))
-step_same (Index i) (Index j) e = search rules
+-- of no value nothing is spelled
+pub has_none : {V M : Type 0} (f : Front) (v : LentNodes V M) → f.count ≡ 0 → string_bytes f.text ≡ []
+    → HasPathText f v
+has_none f v none empty =
+    empty ∙ sym (ap (λ k. way_text (take k (way_of v))) none ∙ ap way_text (take_nothing (way_of v)))
 
--- equal steps are the same in a path
-steps_same : (ks ls : List Step) → pointwise steps.eq ks ls ≡ true → map step_of ks ≡ map step_of ls
-steps_same [] [] e = refl
-steps_same [] (t ∷ ls) e = absurd (true≢false (sym e))
-steps_same (s ∷ ks) [] e = absurd (true≢false (sym e))
-steps_same (s ∷ ks) (t ∷ ls) e =
-    ap₂ (λ k rest. k ∷ rest) (step_same s t (first_so (steps.eq s t) (pointwise steps.eq ks ls) e))
-    (steps_same ks ls (second_so (steps.eq s t) (pointwise steps.eq ks ls) e))
+-- what is not kept is gone
+pub goes_back : {V M : Type 0} (f g : Front) (kept : ℕ) (v : LentNodes V M) → kept ≡ kept_of v → Follows f v
+    → (kept < f.count → (g.count ≡ 0) × (string_bytes g.text ≡ [])) → (f.count ≤ kept → g ≡ f)
+    → HasPathText g v
+goes_back f g kept v is follows back same = elim (cases_lt kept f.count) [
+  | inl less ↦ has_none g v (back less).0 (back less).1
+  | inr fits ↦
+      subst (λ h. HasPathText h v) (sym (same fits)) (follows (subst (λ k. f.count ≤ k) is fits))
+]
 
--- steps that begin with others are those and the rest
-pub goes_on : (ks ls rest : List Step) → pointwise steps.eq (take (length ks) ls) ks ≡ true
-    → rest ≡ drop (length ks) ls → map step_of ks ++ map step_of rest ≡ map step_of ls
-goes_on ks ls rest begins is =
-    ap₂ (λ front end. front ++ map step_of end) (sym (steps_same (take (length ks) ls) ks begins)) is
-    ∙ sym (map-append step_of (take (length ks) ls) (drop (length ks) ls))
-    ∙ ap (map step_of) (take-append-drop (length ks) ls)
+take_one_more : {X : Type 0} (xs : List X) (i : ℕ) (x : X) → slice_get xs i ≡ Some x
+    → take (i + 1) xs ≡ take i xs ++ x ∷ []
+take_one_more [] i x at = absurd (cc)
+take_one_more (y ∷ ys) zero x at =
+    ap (λ z. z ∷ take 0 ys) (same_Some y x at) ∙ ap (λ t. x ∷ t) (take_nothing ys)
+take_one_more (y ∷ ys) (suc i) x at = ap (λ t. y ∷ t) (take_one_more ys i x at)
+
+-- one value more is spelled
+pub spelled_more : (ss : List (Option Step)) (i : ℕ) (s : Option Step) (text : List ℕ)
+    → text ≡ way_text (take i ss) → slice_get ss i ≡ Some s
+    → text ++ flat_map step_text (location_of s) ≡ way_text (take (i + 1) ss)
+spelled_more ss i s text before at =
+    ap₂ (λ t u. t ++ u) before (ap (flat_map step_text) (sym (append-nil (location_of s))))
+    ∙ sym (flat_map-append step_text (flat_map location_of (take i ss)) (flat_map location_of (s ∷ [])))
+    ∙ ap (flat_map step_text) (sym (flat_map-append location_of (take i ss) (s ∷ [])))
+    ∙ ap way_text (sym (take_one_more ss i s at))
+
+take_past : {X : Type 0} (xs : List X) (i : ℕ) → slice_get xs i ≡ None → take i xs ≡ xs
+take_past [] zero past = refl
+take_past [] (suc i) past = refl
+take_past (x ∷ xs) zero past = absurd (cc)
+take_past (x ∷ xs) (suc i) past = ap (λ t. x ∷ t) (take_past xs i past)
+
+-- the whole way is spelled
+pub spelled_all : (ss : List (Option Step)) (i : ℕ) (text : List ℕ) → text ≡ way_text (take i ss)
+    → slice_get ss i ≡ None → text ≡ way_text ss
+spelled_all ss i text before past = before ∙ ap way_text (take_past ss i past)

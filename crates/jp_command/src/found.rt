@@ -12,8 +12,7 @@ ghost use Rattle.jp_command.specs.Writes.{GoesAs};
 
 use crate::device::Writer;
 use crate::fault::Fault;
-use crate::front::Front;
-use crate::lines::{Form, push_after_path, push_line};
+use crate::lines::{Form, push_after_path};
 use crate::output::write_all;
 use jp_document::{Step, push_path};
 use jp_lent::Selectable;
@@ -106,7 +105,7 @@ pub fn write_found<'d, V: Selectable, W: Writer>(
     };
     line.clear();
     line.push_str(lead)?;
-    push_line(form, &mut Front::new(alloc), location, value, line)?;
+    push_line_at(form, location, value, line)?;
     let Ok(()) = write_all(output, line.as_bytes()) else {
         return Err(Fault::Write);
     };

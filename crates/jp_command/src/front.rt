@@ -1,88 +1,97 @@
 //! What the paths of nodes begin with.
 
-ghost use Rattle.std.specs.Prelude.{◌≡◌, ◌++◌, OnOk, map, string_bytes};
-ghost use Rattle.jp_document.specs.Location.{step_of};
-ghost use Rattle.jp_document.specs.Path.{path_of};
-ghost use Rattle.jp_command.specs.Private.Fronts.{HasPathText};
+ghost use Rattle.std.specs.Prelude.{◌≡◌, ◌<◌, ◌≤◌, ◌++◌, [], OnOk, string_bytes};
+ghost use Rattle.std.specs.List.{flat_map};
+ghost use Rattle.jp_document.specs.Path.{path_of, step_text};
+ghost use Rattle.jp_evaluate.specs.Lent.{location_of, place_of, stand_of};
+ghost use Rattle.jp_command.specs.Private.Fronts.{Follows, HasPathText};
 
-use jp_document::{Step, push_path, push_step};
+use jp_document::{Step, push_step};
+use jp_evaluate::LentNodes;
+use jp_lent::Selectable;
+use jp_match::Marks;
 use std::alloc::{AllocError, Global};
 
-/// Steps, and how a normalized path spells them. Nodes that come one after another often stand
-/// beside each other, or one in another, so what their paths begin with is spelled once.
+/// How a normalized path spells the steps to values on the way to where an evaluation stands. Nodes that come one
+/// after another often stand beside each other, or one in another, so what their paths begin with is spelled once.
 #[derive(Drop)]
-pub(crate) struct Front<'d> {
-    pub(crate) steps: Vec<Step<'d>>,
+pub(crate) struct Front {
+    /// How many of the values on the way, from the first on.
+    pub(crate) count: usize,
     pub(crate) text: String,
 }
 
-impl<'d> Front<'d> {
-    /// No steps.
-    pub(crate) fn new(alloc: Global) -> Front<'d>
-        ensures { HasPathText result }
+impl Front {
+    /// Of no value.
+    pub(crate) fn new(alloc: Global) -> Front
+        ensures count { result.count ≡ 0 }
+        ensures text { string_bytes result.text ≡ [] }
     {
-        Front::within(Vec::new(alloc), String::new(alloc))
+        Front::within(String::new(alloc))
     }
 
-    /// No steps, in the memory of others.
-    pub(crate) fn within(mut steps: Vec<Step<'d>>, mut text: String) -> Front<'d>
-        ensures { HasPathText result }
+    /// Of no value, in the memory of another.
+    pub(crate) fn within(mut text: String) -> Front
+        ensures count { result.count ≡ 0 }
+        ensures text { string_bytes result.text ≡ [] }
     {
-        steps.clear();
         text.clear();
-        Front { steps, text }
+        Front { count: 0, text }
     }
 
-    /// Appends the normalized path of a location, and keeps all its steps but the last, where that
-    /// pays. After an error nothing is said of what is kept.
-    pub(crate) fn push_path(
+    /// Appends the normalized path of the node that was given last. After an error nothing is said of what is kept.
+    pub(crate) fn push_path<'d: 'q, 'q, V: Selectable + 'd>(
         &mut self,
-        location: &[Step<'d>],
+        nodes: &LentNodes<'d, 'q, V, Marks>,
         line: &mut String,
     ) -> Result<(), AllocError>
-        requires { HasPathText self.old }
-        ensures kept { OnOk result (HasPathText self.new) }
+        requires { Follows self.old nodes.now }
+        ensures kept { OnOk result (HasPathText self.new nodes.now) }
         ensures path { OnOk result (string_bytes line.new
-            ≡ string_bytes line.old ++ path_of (map step_of location.now)) }
+            ≡ string_bytes line.old ++ path_of (place_of nodes.now)) }
     {
-        match location.split_last() {
-            Some((last, before)) if before.len() > 1 => {
-                self.keep(before)?;
-                line.push('$')?;
-                line.push_str(self.text.as_str())?;
-                push_step(line, *last)
-            }
-            _ => push_path(line, location),
-        }
+        self.follow(nodes)?;
+        line.push('$')?;
+        line.push_str(self.text.as_str())?;
+        push_last(line, nodes.last_step())
     }
 
-    /// Keeps these steps.
-    fn keep(&mut self, steps: &[Step<'d>]) -> Result<(), AllocError>
-        requires { HasPathText self.old }
-        ensures kept { OnOk result (HasPathText self.new) }
-        ensures steps { OnOk result (map step_of self.new.steps.items ≡ map step_of steps.now) }
+    /// Goes to where the evaluation stands.
+    fn follow<'d: 'q, 'q, V: Selectable + 'd>(
+        &mut self,
+        nodes: &LentNodes<'d, 'q, V, Marks>,
+    ) -> Result<(), AllocError>
+        requires { Follows self.old nodes.now }
+        ensures kept { OnOk result (HasPathText self.new nodes.now) }
+        ensures all { OnOk result (string_bytes self.new.text ≡ flat_map step_text (stand_of nodes.now)) }
     {
-        let rest = self.rest_of(steps);
-        for step in rest {
-            push_step(&mut self.text, *step)?;
-            self.steps.push(*step)?;
+        self.go_back(nodes.kept());
+        while let Some(step) = nodes.step_at(self.count) {
+            push_last(&mut self.text, step)?;
+            self.count += 1;
         }
         Ok(())
     }
 
-    /// What these steps have behind those that are kept; where they do not begin with those, none
-    /// are kept any more.
-    fn rest_of<'s>(&mut self, steps: &'s [Step<'d>]) -> &'s [Step<'d>]
-        requires { HasPathText self.old }
-        ensures kept { HasPathText self.new }
-        ensures rest { map step_of self.new.steps.items ++ map step_of result.now
-            ≡ map step_of steps.entry.now }
+    /// Where not so many values are kept, nothing is.
+    fn go_back(&mut self, kept: usize)
+        ensures back { kept < self.old.count → (self.new.count ≡ 0) × (string_bytes self.new.text ≡ []) }
+        ensures same { self.old.count ≤ kept → self.new ≡ self.old }
     {
-        if let Some(rest) = steps.strip_prefix(self.steps.as_slice()) {
-            return rest;
+        if kept < self.count {
+            self.count = 0;
+            self.text.clear();
         }
-        self.steps.clear();
-        self.text.clear();
-        steps
+    }
+}
+
+/// Appends what a path has for a step, if there is one.
+fn push_last(text: &mut String, step: Option<Step<'_>>) -> Result<(), AllocError>
+    ensures { OnOk result (string_bytes text.new
+        ≡ string_bytes text.old ++ flat_map step_text (location_of step.entry)) }
+{
+    match step {
+        Some(step) => push_step(text, step),
+        None => Ok(()),
     }
 }

@@ -1,18 +1,16 @@
 //! Writing a line for each node.
 
-ghost use Rattle.std.specs.Prelude.{◌≡◌, ◌++◌, IfErr, IfOk, IfSome, OnOk, false, map, string_bytes};
+ghost use Rattle.std.specs.Prelude.{◌≡◌, ◌++◌, IfErr, IfOk, IfSome, OnOk, false, string_bytes};
 ghost use Rattle.std.specs.List.{flat_map};
 ghost use Rattle.jp_command.specs.Lines.{line_behind, line_of, output_behind};
 ghost use Rattle.jp_command.specs.Output.{StopsWriting, WritesAll};
 ghost use Rattle.jp_command.specs.Writes.{GoesAs};
 ghost use Rattle.jp_command.specs.Private.AsFound.{WritesAsFound};
-ghost use Rattle.jp_command.specs.Private.Fronts.{HasPathText, path_in_line, text_after_path};
-ghost use Rattle.jp_command.specs.Private.Shown.{GivesShown};
-ghost use Rattle.jp_evaluate.specs.Lent.{has_failed, rest_of, steps_of};
+ghost use Rattle.jp_command.specs.Private.Fronts.{ComesAlong, IsAlong, path_in_line, text_after_path};
+ghost use Rattle.jp_command.specs.Private.Shown.{GivesShown, KeepsShown};
+ghost use Rattle.jp_evaluate.specs.Lent.{given_node, has_failed, place_of, rest_of, steps_of};
 ghost use Rattle.jp_evaluate.specs.Stopping.{StopsSpent};
 ghost use Rattle.jp_select.specs.Steps.{Takes};
-ghost use Rattle.jp_document.specs.Location.{step_of};
-ghost use Rattle.jp_document.specs.Node.{node_at};
 ghost use Rattle.jp_tree.specs.Views.{query_of};
 
 use crate::device::Writer;
@@ -21,7 +19,6 @@ use crate::front::Front;
 use crate::output::write_all;
 use crate::selecting::push_rest;
 use jp_check::Checked;
-use jp_document::Step;
 use jp_evaluate::{EvaluationFault, LentNodes, Patterns, lent_nodes_with};
 use jp_lent::{Selectable, push_value};
 use jp_match::Marks;
@@ -40,41 +37,40 @@ pub enum Form {
     Both,
 }
 
-/// Appends the line of the node at this location with this value. After an error nothing is said of
-/// the front.
+/// Appends the line of the node that was given last, with this value. After an error nothing is said of the front.
 #[inline(always)]
-pub(crate) fn push_line<'d, V: Selectable>(
+pub(crate) fn push_line<'d: 'q, 'q, V: Selectable + 'd>(
     form: Form,
-    front: &mut Front<'d>,
-    location: &[Step<'d>],
+    nodes: &LentNodes<'d, 'q, V, Marks>,
+    front: &mut Front,
     value: V,
     line: &mut String,
 ) -> Result<(), AllocError>
-    requires { HasPathText front.old }
-    ensures kept { OnOk result (HasPathText front.new) }
-    ensures line { OnOk result (string_bytes line.new ≡ string_bytes line.old
-        ++ line_of form (node_at (map step_of location.now) (V.meaning value))) }
+    requires { ComesAlong form front.old nodes.now }
+    ensures kept { OnOk result (IsAlong form front.new nodes.now) }
+    ensures line { OnOk result (string_bytes line.new
+        ≡ string_bytes line.old ++ line_of form (given_node V.meaning nodes.now value)) }
 {
-    push_front(form, front, location, line)?;
+    push_front(form, nodes, front, line)?;
     push_after_path(form, value, line)
 }
 
-/// Appends the path that the line of the node at this location has, if it has one.
+/// Appends the path that the line of that node has, if it has one.
 #[inline(always)]
-fn push_front<'d>(
+fn push_front<'d: 'q, 'q, V: Selectable + 'd>(
     form: Form,
-    front: &mut Front<'d>,
-    location: &[Step<'d>],
+    nodes: &LentNodes<'d, 'q, V, Marks>,
+    front: &mut Front,
     line: &mut String,
 ) -> Result<(), AllocError>
-    requires { HasPathText front.old }
-    ensures kept { OnOk result (HasPathText front.new) }
+    requires { ComesAlong form front.old nodes.now }
+    ensures kept { OnOk result (IsAlong form front.new nodes.now) }
     ensures path { OnOk result (string_bytes line.new ≡ string_bytes line.old
-        ++ path_in_line form (map step_of location.now)) }
+        ++ path_in_line form (place_of nodes.now)) }
 {
     match form {
         Form::Values => Ok(()),
-        Form::Paths | Form::Both => front.push_path(location, line),
+        Form::Paths | Form::Both => front.push_path(nodes, line),
     }
 }
 
@@ -120,17 +116,8 @@ pub fn selected_lines<'d: 'q, 'q, V: Selectable + 'd>(
     let read = mem::replace(patterns, Patterns::new(alloc));
     let mut nodes = lent_nodes_with(alloc, root, query, &Marks, read, *steps);
     let mut lines = String::new(alloc);
-    let mut location: Vec<Step<'d>> = Vec::new(alloc);
-    let mut front: Front<'d> = Front::new(alloc);
-    let pushed = push_rest(
-        form,
-        lead,
-        None,
-        &mut nodes,
-        &mut location,
-        &mut front,
-        &mut lines,
-    );
+    let mut front = Front::new(alloc);
+    let pushed = push_rest(form, lead, None, &mut nodes, &mut front, &mut lines);
     let (read, left) = nodes.into_parts();
     *patterns = read;
     *steps = left;
@@ -205,13 +192,12 @@ pub(crate) fn write_lines<'d: 'q, 'q, V: Selectable + 'd, W: Writer>(
     ensures as_found { WritesAsFound W.contents W.write_takes (line_behind lead.now form) V.meaning
         nodes.old nodes.new output.old output.new result }
 {
-    let mut location = Vec::new(alloc);
     let mut front = Front::new(alloc);
-    while let Some(next) = next_unlimited(form, nodes, &mut location) {
+    while let Some(next) = next_unlimited(form, nodes) {
         let value = next?;
         line.clear();
         line.push_str(lead)?;
-        push_line(form, &mut front, &location, value, line)?;
+        push_line(form, nodes, &mut front, value, line)?;
         let Ok(()) = write_all(output, line.as_bytes()) else {
             return Err(Fault::Write);
         };
@@ -219,19 +205,19 @@ pub(crate) fn write_lines<'d: 'q, 'q, V: Selectable + 'd, W: Writer>(
     Ok(())
 }
 
-/// The next node: its value, and in `location` the steps to it, where the form shows them.
+/// The value of the next node, of which the evaluation keeps where it stands where the form shows a path.
 pub(crate) fn next_shown<'d: 'q, 'q, V: Selectable + 'd>(
     form: Form,
     nodes: &mut LentNodes<'d, 'q, V, Marks>,
-    location: &mut Vec<Step<'d>>,
 ) -> Option<Result<V, EvaluationFault>>
-    ensures gives { GivesShown form V.meaning nodes.old location.new result nodes.new }
+    ensures gives { GivesShown form V.meaning nodes.old result nodes.new }
+    ensures keeps { IfSome result (λ r. OnOk r (KeepsShown form nodes.old nodes.new)) }
     ensures takes { Takes (steps_of nodes.old) (steps_of nodes.new) }
     ensures stopped { IfSome result (λ r. StopsSpent r (steps_of nodes.new)) }
 {
     match form {
         Form::Values => nodes.next_value(),
-        Form::Paths | Form::Both => nodes.next_at(location),
+        Form::Paths | Form::Both => nodes.next_placed(),
     }
 }
 
@@ -239,13 +225,13 @@ pub(crate) fn next_shown<'d: 'q, 'q, V: Selectable + 'd>(
 fn next_unlimited<'d: 'q, 'q, V: Selectable + 'd>(
     form: Form,
     nodes: &mut LentNodes<'d, 'q, V, Marks>,
-    location: &mut Vec<Step<'d>>,
 ) -> Option<Result<V, AllocError>>
     requires { (steps_of nodes.now).limited ≡ false }
-    ensures gives { GivesShown form V.meaning nodes.old location.new result nodes.new }
+    ensures gives { GivesShown form V.meaning nodes.old result nodes.new }
+    ensures keeps { IfSome result (λ r. OnOk r (KeepsShown form nodes.old nodes.new)) }
     ensures unlimited { (steps_of nodes.new).limited ≡ false }
 {
-    match next_shown(form, nodes, location)? {
+    match next_shown(form, nodes)? {
         Ok(value) => Some(Ok(value)),
         Err(fault) => Some(Err(fault.without_limit())),
     }

@@ -5,7 +5,7 @@ ghost use Rattle.std.specs.List.{flat_map};
 ghost use Rattle.jp_command.specs.Lines.{line_behind, lines_of};
 ghost use Rattle.jp_command.specs.Selecting.{first_nodes, nodes_behind};
 ghost use Rattle.jp_command.specs.Private.Firsts.{is_more};
-ghost use Rattle.jp_command.specs.Private.Fronts.{HasPathText};
+ghost use Rattle.jp_command.specs.Private.Fronts.{IsAlong};
 ghost use Rattle.jp_evaluate.specs.Lent.{has_failed, rest_of, steps_of};
 ghost use Rattle.jp_evaluate.specs.Nodelist.{nodelist};
 ghost use Rattle.jp_evaluate.specs.Stopping.{StopsSpent};
@@ -15,7 +15,6 @@ ghost use Rattle.jp_tree.specs.Views.{query_of};
 use crate::front::Front;
 use crate::lines::{Form, next_shown, push_line};
 use jp_check::Checked;
-use jp_document::Step;
 use jp_evaluate::{EvaluationFault, Frame, LentNodes, Patterns, lent_nodes_in};
 use jp_lent::Selectable;
 use jp_match::Marks;
@@ -31,11 +30,7 @@ pub struct Rooms<'d, V> {
     pub patterns: Patterns,
     /// The frames of the walk.
     pub frames: Vec<Frame<'d, V>>,
-    /// The steps to a node.
-    pub location: Vec<Step<'d>>,
-    /// The steps that paths begin with.
-    pub front: Vec<Step<'d>>,
-    /// How paths spell these.
+    /// What paths begin with.
     pub path: String,
 }
 
@@ -63,19 +58,8 @@ pub fn push_selected<'d: 'q, 'q, V: Selectable + 'd>(
     let patterns = mem::replace(&mut rooms.patterns, Patterns::new(alloc));
     let frames = mem::replace(&mut rooms.frames, Vec::new(alloc));
     let mut nodes = lent_nodes_in(alloc, root, query, &Marks, patterns, frames, *steps);
-    let front = mem::replace(&mut rooms.front, Vec::new(alloc));
-    let path = mem::replace(&mut rooms.path, String::new(alloc));
-    let mut front = Front::within(front, path);
-    let pushed = push_behind(
-        form,
-        from,
-        most,
-        &mut nodes,
-        &mut rooms.location,
-        &mut front,
-        lines,
-    );
-    rooms.front = front.steps;
+    let mut front = Front::within(mem::replace(&mut rooms.path, String::new(alloc)));
+    let pushed = push_behind(form, from, most, &mut nodes, &mut front, lines);
     rooms.path = front.text;
     (rooms.patterns, *steps, rooms.frames) = nodes.into_rooms();
     pushed
@@ -87,19 +71,19 @@ fn push_behind<'d: 'q, 'q, V: Selectable + 'd>(
     from: u64,
     most: Option<u64>,
     nodes: &mut LentNodes<'d, 'q, V, Marks>,
-    location: &mut Vec<Step<'d>>,
-    front: &mut Front<'d>,
+    front: &mut Front,
     lines: &mut String,
 ) -> Result<(), EvaluationFault>
     requires working { has_failed nodes.now ≡ false }
-    requires front { HasPathText front.now }
+    requires count { front.now.count ≡ 0 }
+    requires text { string_bytes front.now.text ≡ [] }
     ensures lines { OnOk result (string_bytes lines.new ≡ string_bytes lines.old
         ++ lines_of form (nodes_behind from most (rest_of V.meaning nodes.old))) }
     ensures takes { Takes (steps_of nodes.old) (steps_of nodes.new) }
     ensures stopped { StopsSpent result (steps_of nodes.new) }
 {
     pass_over(nodes, from)?;
-    push_rest(form, "", most, nodes, location, front, lines)
+    push_rest(form, "", most, nodes, front, lines)
 }
 
 /// Passes over so many nodes, or over all where there are fewer.
@@ -131,12 +115,11 @@ pub(crate) fn push_rest<'d: 'q, 'q, V: Selectable + 'd>(
     lead: &str,
     most: Option<u64>,
     nodes: &mut LentNodes<'d, 'q, V, Marks>,
-    location: &mut Vec<Step<'d>>,
-    front: &mut Front<'d>,
+    front: &mut Front,
     lines: &mut String,
 ) -> Result<(), EvaluationFault>
     requires working { has_failed nodes.now ≡ false }
-    requires front { HasPathText front.now }
+    requires front { IsAlong form front.now nodes.now }
     ensures lines { OnOk result (string_bytes lines.new ≡ string_bytes lines.old
         ++ flat_map (line_behind lead.now form) (first_nodes most (rest_of V.meaning nodes.old))) }
     ensures takes { Takes (steps_of nodes.old) (steps_of nodes.new) }
@@ -144,12 +127,12 @@ pub(crate) fn push_rest<'d: 'q, 'q, V: Selectable + 'd>(
 {
     let mut left = most;
     while is_more(left) {
-        let Some(next) = next_shown(form, nodes, location) else {
+        let Some(next) = next_shown(form, nodes) else {
             return Ok(());
         };
         let value = next?;
         lines.push_str(lead)?;
-        push_line(form, front, location, value, lines)?;
+        push_line(form, nodes, front, value, lines)?;
         left = one_less(left);
     }
     Ok(())

@@ -3,6 +3,8 @@ pub mod Advances
 pub mod Begun
 pub mod Capped
 pub mod Choices
+pub mod Given
+pub mod Kept
 pub mod Leaves
 pub mod Reaching
 pub mod Selects

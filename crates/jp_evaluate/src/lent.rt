@@ -1,15 +1,16 @@
 //! The nodes of a nodelist as they are lent, to be taken one by one.
-ghost use Rattle.std.specs.Prelude.{◌≡◌, ◌+◌, ◌++◌, ◌∷◌, IfNone, IfOk, IfSome, OnOk, [], false, filter, length, true};
-ghost use Rattle.std.specs.Prelude.{if◌then◌else◌, MatchOption, map, option_to_list};
+ghost use Rattle.std.specs.Prelude.{◌≡◌, ◌<◌, ◌+◌, ◌++◌, ◌∷◌, IfNone, IfOk, IfSome, OnOk, [], false, filter, length, true};
+ghost use Rattle.std.specs.Prelude.{if◌then◌else◌, MatchOption, OnSome, map, option_to_list, slice_get};
 ghost use Rattle.std.specs.Iterator.{at_most};
 ghost use Rattle.jp_tree.specs.Views.{query_of};
 ghost use Rattle.jp_select.specs.Giving.{GivesNextAs};
 ghost use Rattle.jp_select.specs.Steps.{Counts, Takes};
 ghost use Rattle.jp_evaluate.specs.Stopping.{GivenCounts, StopsSpent};
-ghost use Rattle.jp_evaluate.specs.Lent.{GivesNextValue, has_failed, lent_node, rest_of, steps_of};
+ghost use Rattle.jp_evaluate.specs.Lent.{GivesNextValue, KeepsWay, given_node, has_failed, kept_of, lent_node};
+ghost use Rattle.jp_evaluate.specs.Lent.{rest_of, steps_of, way_of};
 ghost use Rattle.jp_evaluate.specs.Nodelist.{nodelist};
 ghost use Rattle.jp_evaluate.specs.Private.Segments.{AreOf, followed, is_begun};
-ghost use Rattle.jp_evaluate.specs.Private.Walk.{reached_node};
+ghost use Rattle.jp_evaluate.specs.Private.Walk.{Keeps, reached_node};
 ghost use Rattle.jp_evaluate.specs.Patterns.{is_short, texts_in, texts_kept};
 
 use crate::evaluating::{Evaluation, Work};
@@ -33,6 +34,7 @@ pub struct LentNodes<'d, 'q, V, M> {
     work: Work,
     segments: Segments<'q>,
     walk: Walk<'d, V>,
+    last: Option<Step<'d>>,
     failed: bool,
 }
 
@@ -133,6 +135,7 @@ pub fn lent_nodes_in<'d: 'q, 'q, V: Selectable + 'd, M: Matching>(
         work: Work { patterns, steps },
         segments: Segments::of(query.query()),
         walk: Walk::within(frames, root),
+        last: None,
         failed: false,
     }
 }
@@ -213,6 +216,54 @@ impl<'d: 'q, 'q, V: Selectable + 'd, M: Matching> LentNodes<'d, 'q, V, M> {
         }
     }
 
+    /// The value of the next node, as `next_at` gives it. Where the node is, `last_step` tells, and `step_at`.
+    pub fn next_placed(&mut self) -> Option<Result<V, EvaluationFault>>
+        ensures gives { GivesNextAs (given_node V.meaning self.new) (rest_of V.meaning) has_failed
+            self.old result self.new }
+        ensures keeps { IfSome result (λ r. OnOk r (KeepsWay self.old self.new)) }
+        ensures counts { IfSome result (λ r. OnOk r (Counts 1 (steps_of self.old) (steps_of self.new))) }
+        ensures takes { Takes (steps_of self.old) (steps_of self.new) }
+        ensures stopped { IfSome result (λ r. StopsSpent r (steps_of self.new)) }
+    {
+        if self.failed {
+            return None;
+        }
+        self.walk.kept = usize::MAX;
+        let next = self.reach();
+        self.failed = next.is_err();
+        match next.transpose()? {
+            Ok(reached) => {
+                self.last = reached.step;
+                Some(Ok(reached.value))
+            }
+            Err(error) => Some(Err(error)),
+        }
+    }
+
+    /// The step to the node that `next_placed` gave last, from where the walk stands; the root has none.
+    pub fn last_step(&self) -> Option<Step<'d>>
+        ensures { result ≡ self.now.last }
+    {
+        self.last
+    }
+
+    /// How many values on the way to where the walk stands, from the first on, are the same as before the last call of
+    /// `next_placed`.
+    pub fn kept(&self) -> usize
+        ensures { result ≡ kept_of self.now }
+    {
+        self.walk.kept
+    }
+
+    /// The step to the value of this number, from 0, on the way to where the walk stands, from the one before it. The
+    /// first has none; None where there are no more.
+    pub fn step_at(&self, index: usize) -> Option<Option<Step<'d>>>
+        ensures step { result ≡ slice_get (way_of self.now) index }
+        ensures more { OnSome result (index < usize.MAX) }
+    {
+        self.walk.step_at(index)
+    }
+
     /// The next node, before an error is kept.
     fn take(&mut self, location: &mut Vec<Step<'d>>) -> Result<Option<V>, EvaluationFault>
         ensures gives { IfOk result (λ o. rest_of V.meaning self.old
@@ -237,6 +288,7 @@ impl<'d: 'q, 'q, V: Selectable + 'd, M: Matching> LentNodes<'d, 'q, V, M> {
         ensures gives { IfOk result (λ o. let left = rest_of V.meaning in MatchOption o
             ((left self.old ≡ []) × (left self.new ≡ []))
             (λ p. left self.old ≡ reached_node V.meaning self.new.walk p ∷ left self.new)) }
+        ensures keeps { OnOk result (Keeps self.old.walk self.new.walk) }
         ensures counts { GivenCounts result (steps_of self.old) (steps_of self.new) }
         ensures failed { has_failed self.new ≡ has_failed self.old }
         ensures takes { Takes (steps_of self.old) (steps_of self.new) }
@@ -252,6 +304,7 @@ impl<'d: 'q, 'q, V: Selectable + 'd, M: Matching> LentNodes<'d, 'q, V, M> {
     fn begin(&mut self) -> Result<(), EvaluationFault>
         ensures rest { OnOk result (rest_of V.meaning self.new ≡ rest_of V.meaning self.old) }
         ensures begun { OnOk result (is_begun self.new.segments ≡ true) }
+        ensures keeps { OnOk result (Keeps self.old.walk self.new.walk) }
         ensures failed { has_failed self.new ≡ has_failed self.old }
         ensures takes { Takes (steps_of self.old) (steps_of self.new) }
         ensures stopped { StopsSpent result (steps_of self.new) }

@@ -2,7 +2,7 @@
 //! a frame for each value on the way from where it begins to where it stands, and no list of nodes.
 ghost use Rattle.jp_evaluate.specs.Stopping.{GivenCounts, StopsSpent};
 ghost use Rattle.std.specs.Prelude.{◌≡◌, ◌↔◌, ◌<◌, ◌++◌, ◌∷◌, [], IfNone, IfOk, IfSome, IsTrue};
-ghost use Rattle.std.specs.Prelude.{MatchOption, None, OnOk, OnSome, length, map, option_and_then};
+ghost use Rattle.std.specs.Prelude.{MatchOption, None, OnOk, OnSome, length, map, min, option_and_then};
 ghost use Rattle.std.specs.Prelude.{option_map, slice_get};
 ghost use Rattle.jp_document.specs.Location.{entries, step_of};
 ghost use Rattle.jp_document.specs.Node.{root_of};
@@ -16,7 +16,7 @@ ghost use Rattle.jp_evaluate.specs.Private.Walk.{choice_at, entered, frame_choic
 ghost use Rattle.jp_evaluate.specs.Private.Walk.{passes, pending, reached_at, reached_node};
 ghost use Rattle.jp_evaluate.specs.Private.Walk.{segments_left, steps_of, walk_reaches};
 ghost use Rattle.jp_evaluate.specs.Private.Walk.{test_of, turn_of, turn_selector, turns};
-ghost use Rattle.jp_evaluate.specs.Private.Walk.{walk_frames};
+ghost use Rattle.jp_evaluate.specs.Private.Walk.{Keeps, walk_frames, walk_steps};
 
 use crate::evaluating::{Evaluation, Work};
 use crate::evaluation_fault::EvaluationFault;
@@ -77,6 +77,8 @@ pub(crate) struct Walk<'d, V> {
     first: Option<V>,
     top: Option<Frame<'d, V>>,
     below: Vec<Frame<'d, V>>,
+    /// How many of the frames, from the first on, stood there when all were kept.
+    pub(crate) kept: usize,
 }
 
 impl<'d, V: Selectable + 'd> Walk<'d, V> {
@@ -84,6 +86,7 @@ impl<'d, V: Selectable + 'd> Walk<'d, V> {
     pub(crate) fn from(alloc: Global, value: V) -> Walk<'d, V>
         ensures first { result.first ≡ Some value }
         ensures frames { walk_frames result ≡ [] }
+        ensures kept { result.kept ≡ 0 }
     {
         Walk::within(Vec::new(alloc), value)
     }
@@ -92,12 +95,14 @@ impl<'d, V: Selectable + 'd> Walk<'d, V> {
     pub(crate) fn within(mut frames: Vec<Frame<'d, V>>, value: V) -> Walk<'d, V>
         ensures first { result.first ≡ Some value }
         ensures frames { walk_frames result ≡ [] }
+        ensures kept { result.kept ≡ 0 }
     {
         frames.clear();
         Walk {
             first: Some(value),
             top: None,
             below: frames,
+            kept: 0,
         }
     }
 
@@ -126,6 +131,7 @@ impl<'d, V: Selectable + 'd> Walk<'d, V> {
             ((left self.old ≡ []) × (left self.new ≡ []))
             (λ p. left self.old ≡ reached_node V.meaning self.new p ∷ left self.new)) }
         ensures counts { GivenCounts result work.old.steps work.new.steps }
+        ensures keeps { OnOk result (Keeps self.old self.new) }
         ensures takes { Takes work.old.steps work.new.steps }
         ensures stopped { StopsSpent result work.new.steps }
     {
@@ -155,6 +161,7 @@ impl<'d, V: Selectable + 'd> Walk<'d, V> {
             ≡ choice_at (reached_at [] (walk_frames self.new)) (offered V.meaning segments.now o)
             ∷ left self.new) }
         ensures begun { self.new.first ≡ None }
+        ensures keeps { Keeps self.old self.new }
         ensures smaller { IfSome result (λ o. IfSome o.test (λ e. expr_size (expr_of e.now)
             < segments_size (segment_trees (map segment_of segments.now)))) }
     {
@@ -178,6 +185,36 @@ impl<'d, V: Selectable + 'd> Walk<'d, V> {
                 return Some(offer);
             }
             self.top = None;
+            self.keep_below();
+        }
+    }
+
+    /// No more frames are kept than those below.
+    #[inline(always)]
+    fn keep_below(&mut self)
+        ensures first { self.new.first ≡ self.old.first }
+        ensures top { self.new.top ≡ self.old.top }
+        ensures below { self.new.below ≡ self.old.below }
+        ensures kept { self.new.kept ≡ min self.old.kept (length self.old.below.items) }
+    {
+        self.kept = self.kept.min(self.below.len());
+    }
+
+    /// The step to the frame of this number, from 0, from the one before it; None where there is no such frame.
+    #[inline(always)]
+    pub(crate) fn step_at(&self, index: usize) -> Option<Option<Step<'d>>>
+        ensures step { result ≡ slice_get (walk_steps self.now) index }
+        ensures more { OnSome result (index < usize.MAX) }
+    {
+        if index < self.below.len() {
+            return Some(self.below[index].reached.step);
+        }
+        if index > self.below.len() {
+            return None;
+        }
+        match &self.top {
+            Some(frame) => Some(frame.reached.step),
+            None => None,
         }
     }
 
@@ -186,6 +223,7 @@ impl<'d, V: Selectable + 'd> Walk<'d, V> {
         ensures first { self.new.first ≡ self.old.first }
         ensures frames { walk_frames self.new ≡ walk_frames self.old }
         ensures none { IfNone self.new.top (walk_frames self.new ≡ []) }
+        ensures kept { self.new.kept ≡ self.old.kept }
     {
         if self.top.is_none() {
             self.top = self.below.pop();
@@ -197,6 +235,21 @@ impl<'d, V: Selectable + 'd> Walk<'d, V> {
         ensures first { self.new.first ≡ self.old.first }
         ensures frames { OnOk result
             (walk_frames self.new ≡ walk_frames self.old ++ entered reached.entry ∷ []) }
+        ensures keeps { OnOk result (Keeps self.old self.new) }
+    {
+        self.push(reached)?;
+        self.keep_below();
+        Ok(())
+    }
+
+    /// Goes on from a value, with what was kept.
+    #[inline(always)]
+    fn push(&mut self, reached: Reached<'d, V>) -> Result<(), AllocError>
+        ensures first { self.new.first ≡ self.old.first }
+        ensures frames { OnOk result
+            (walk_frames self.new ≡ walk_frames self.old ++ entered reached.entry ∷ []) }
+        ensures below { OnOk result (self.new.below.items ≡ walk_frames self.old) }
+        ensures kept { self.new.kept ≡ self.old.kept }
     {
         let frame = Frame {
             reached,

@@ -12,6 +12,7 @@ use Rattle.jp_evaluate.specs.Private.Calls.{counted}
 use Rattle.jp_evaluate.specs.Private.Selecting.{nodes_query}
 use Rattle.jp_evaluate.specs.Private.Walk.{reached_node, reaches, segments_left}
 use Rattle.jp_evaluate.proofs.Parts.Counted.{counted_nodes, one-answer, test-logical, test-nodes}
+use Rattle.jp_evaluate.proofs.Walks.Kept.{keeps_then}
 use Rattle.jp_evaluate.proofs.Walks.Selects.{begun_to_come}
 use Rattle.jp_evaluate.proofs.Walks.Advances.{ends_at, ends_in_leaf, goes_on, goes_on_less, offer_less, passed_over}
 use Rattle.jp_evaluate.proofs.Walks.Spreading.{spread-begun, spread-failed, spread-fewer, spread-passed}
@@ -176,8 +177,12 @@ walk::Walk::advance-loop-self-preserved g t c =
     let o = c.in-Some.offer in
     let same =
     passed_over g.V.Lent.meaning all d c.loop-self.self c.next_offer.new.self o c.in-Some.ensures.gives
-    (sym c.in_ok-passes.ensures.gives ∙ c.if-branch.false) ∙ c.loop-self.invariant.0 in
-    (same, takes_then c.loop-self.invariant.1 (takes_then c.take.ensures.takes c.passes.ensures.takes))
+    (sym c.in_ok-passes.ensures.gives ∙ c.if-branch.false) ∙ c.loop-self.invariant.same in
+    record {
+      same = same;
+      keeps = keeps_then _ _ _ c.loop-self.invariant.keeps c.next_offer.ensures.keeps;
+      taken = takes_then c.loop-self.invariant.taken (takes_then c.take.ensures.takes c.passes.ensures.takes);
+    }
 
 pub walk::Walk::advance-returns-then-offer-segments-clause-gives :
     goal.walk::Walk::advance-returns-then-offer-segments-clause-gives
@@ -185,7 +190,7 @@ walk::Walk::advance-returns-then-offer-segments-clause-gives g t c =
     let all = c.args.segments.now in
     let d = g.V.Lent.meaning c.args.evaluation.now.root in
     let o = c.in-Some.offer in
-    sym c.loop-self.invariant.0
+    sym c.loop-self.invariant.same
     ∙ ends_at g.V.Lent.meaning all d c.loop-self.self c.next_offer.new.self o c.in-Some.ensures.gives
     (sym c.in_ok-passes.ensures.gives ∙ c.if-branch.true) c.if-offer-segments.true
 
@@ -217,8 +222,14 @@ walk::Walk::advance-loop-self-preserved-in-Continue-branch-4 g t c =
     goes_on g.V.Lent.meaning all d c.loop-self.self c.next_offer.new.self c.enter.new.self o c.in-Some.ensures.gives
     c.in-Some.ensures.begun (sym c.in_ok-passes.ensures.gives ∙ c.if-branch.true)
     c.if-offer-segments.false c.enter.ensures.first c.in_ok-enter.ensures.frames
-    ∙ c.loop-self.invariant.0 in
-    (same, takes_then c.loop-self.invariant.1 (takes_then c.take.ensures.takes (takes_then c.passes.ensures.takes c.take_many.ensures.takes)))
+    ∙ c.loop-self.invariant.same in
+    record {
+      same = same;
+      keeps = keeps_then _ _ _ (keeps_then _ _ _ c.loop-self.invariant.keeps c.next_offer.ensures.keeps)
+          c.in_ok-enter.ensures.keeps;
+      taken = takes_then c.loop-self.invariant.taken
+          (takes_then c.take.ensures.takes (takes_then c.passes.ensures.takes c.take_many.ensures.takes));
+    }
 
 pub walk::Walk::advance-loop-self-preserved-else-not-is_leaf :
     goal.walk::Walk::advance-loop-self-preserved-else-not-is_leaf
@@ -230,8 +241,22 @@ walk::Walk::advance-loop-self-preserved-else-not-is_leaf g t c =
     let same =
     ends_in_leaf g.V.Lent.meaning all d c.loop-self.self c.next_offer.new.self o c.in-Some.ensures.gives
     (sym c.in_ok-passes.ensures.gives ∙ c.if-branch.true) c.if-offer-segments.false leaf
-    ∙ c.loop-self.invariant.0 in
-    (same, takes_then c.loop-self.invariant.1 (takes_then c.take.ensures.takes c.passes.ensures.takes))
+    ∙ c.loop-self.invariant.same in
+    record {
+      same = same;
+      keeps = keeps_then _ _ _ c.loop-self.invariant.keeps c.next_offer.ensures.keeps;
+      taken = takes_then c.loop-self.invariant.taken (takes_then c.take.ensures.takes c.passes.ensures.takes);
+    }
+
+pub walk::Walk::advance-returns-in_default-clause-keeps :
+    goal.walk::Walk::advance-returns-in_default-clause-keeps
+walk::Walk::advance-returns-in_default-clause-keeps g t c =
+    keeps_then _ _ _ c.loop-self.invariant.keeps c.next_offer.ensures.keeps
+
+pub walk::Walk::advance-returns-then-offer-segments-clause-keeps :
+    goal.walk::Walk::advance-returns-then-offer-segments-clause-keeps
+walk::Walk::advance-returns-then-offer-segments-clause-keeps g t c =
+    keeps_then _ _ _ c.loop-self.invariant.keeps c.next_offer.ensures.keeps
 
 -- ---- tallies
 

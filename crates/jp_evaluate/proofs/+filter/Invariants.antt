@@ -16,7 +16,7 @@ use Rattle.jp_evaluate.specs.Private.Sizes.{operand_size, query_size, segments_s
 use Rattle.jp_evaluate.specs.Private.Calls.{counted}
 use Rattle.jp_evaluate.specs.Private.Selecting.{to_come}
 use Rattle.jp_evaluate.specs.Private.Tally.{places_sum, way_weight}
-use Rattle.jp_evaluate.specs.Private.Walk.{frame_choices, reaches, segments_left, walk_reaches}
+use Rattle.jp_evaluate.specs.Private.Walk.{Keeps, frame_choices, reaches, segments_left, walk_reaches}
 use Rattle.jp_evaluate.specs.Private.Walk.{walk_weight}
 use Rattle.jp_evaluate.specs.declared.filter.Asking.{Asking}
 use Rattle.jp_evaluate.proofs.Walks.Spreading.{Spreads}
@@ -70,10 +70,12 @@ decreases-filter::Asking::only_value g l = query_size (query_of l.nodes.query.no
 
 -- what was offered so far reached nothing
 abbrev pub invariant-walk::Walk::advance-loop-self : goal.invariant-walk::Walk::advance-loop-self
-invariant-walk::Walk::advance-loop-self g l =
-    (walk_reaches g.V.Lent.meaning l.segments (g.V.Lent.meaning l.evaluation.root) l.self
-    ≡ walk_reaches g.V.Lent.meaning l.segments (g.V.Lent.meaning l.evaluation.root) l.fn.self)
-    × Takes l.fn.work.steps l.work.steps
+invariant-walk::Walk::advance-loop-self g l = record {
+  same : walk_reaches g.V.Lent.meaning l.segments (g.V.Lent.meaning l.evaluation.root) l.self
+      ≡ walk_reaches g.V.Lent.meaning l.segments (g.V.Lent.meaning l.evaluation.root) l.fn.self;
+  keeps : Keeps l.fn.self l.self;
+  taken : Takes l.fn.work.steps l.work.steps;
+}
 
 abbrev pub decreases-walk::Walk::advance-loop-self : goal.decreases-walk::Walk::advance-loop-self
 decreases-walk::Walk::advance-loop-self g l = walk_weight g.V.Lent.meaning l.segments l.self

@@ -1,6 +1,6 @@
 -- What a walk still has to offer, frame by frame; m says what a value that is lent stands for.
-use Rattle.std.specs.Prelude.{ℕ, suc, ◌+◌, List, [], ◌∷◌, ◌++◌, if◌then◌else◌, Bool, true, false}
-use Rattle.std.specs.Prelude.{Option, Some, None, drop, map, option_map, option_to_list, sum_by}
+use Rattle.std.specs.Prelude.{◌≡◌, ◌≤◌, ℕ, suc, ◌+◌, List, [], ◌∷◌, ◌++◌, if◌then◌else◌, Bool, true, false}
+use Rattle.std.specs.Prelude.{Option, Some, None, drop, map, option_map, option_to_list, sum_by, take}
 use Rattle.std.specs.List.{flat_map}
 use Rattle.std.specs.Option.{option_map_or}
 use Rattle.jp_document.specs.Location.{Step, Location, step_of}
@@ -117,6 +117,17 @@ frames_pending m all l (f ∷ fs) =
 
 abbrev pub walk_frames : {V : Type 0} → Walk V → List (Frame V)
 walk_frames w = w.below.items ++ option_to_list w.top
+
+-- the steps to the frames, each from the one before; the first has none
+abbrev pub step_to : {V : Type 0} → Frame V → Option code.Step
+step_to f = f.reached.step
+
+abbrev pub walk_steps : {V : Type 0} → Walk V → List (Option code.Step)
+walk_steps w = map step_to (walk_frames w)
+
+-- as many frames as w keeps stand in v as in it, from the first on, and v kept no fewer
+abbrev pub Keeps : {V : Type 0} → Walk V → Walk V → Type 0
+Keeps v w = (w.kept ≤ v.kept) × (take w.kept (walk_steps w) ≡ take w.kept (walk_steps v))
 
 abbrev pub pending : {V : Type 0} → (V → Value) → List Segment → Walk V → List (Location × Choice)
 pending m all w =

@@ -1,5 +1,5 @@
 use Rattle.std.proofs.Common.{◌≡◌, ◌∙◌, rules, sym}
-use Rattle.jp_evaluate.specs.Lent.{lent_node}
+use Rattle.jp_evaluate.specs.Lent.{given_node}
 use Rattle.jp_command.specs.Lines.{line_behind}
 use Rattle.jp_command.proofs.LineLemmas.{given_more, given_none, given_part, goes-for_memory, line_alike}
 use Rattle.jp_command.proofs.LineLemmas.{part-goes, part-is_prefix, stops-for_memory}
@@ -32,7 +32,7 @@ returns-in_default-write_all-clause-stopped g c =
     let given = rw (c.in-Some.is, c.in_ok-value.was) at c.next_unlimited.ensures.gives in
     let n = given.0 in
     let shown : c.as_bytes.result.now
-    ≡ behind (lent_node g.V.Lent.meaning (c.next_unlimited.new.location, c.in_ok-value.value)) =
+    ≡ behind (given_node g.V.Lent.meaning c.next_unlimited.new.nodes c.in_ok-value.value) =
     search rules in
     let line = shown ∙ sym (line_alike c.args.lead.now c.args.form n _ given.4) in (
       part-is_prefix g.W.Writer.contents g.W.Writer.has_failed g.W.Writer.write_takes behind _ _ _ _
@@ -61,7 +61,7 @@ returns-in_default-write_all-clause-as_found g c =
     let given = rw (c.in-Some.is, c.in_ok-value.was) at c.next_unlimited.ensures.gives in
     let n = given.0 in
     let shown : c.as_bytes.result.now
-    ≡ behind (lent_node g.V.Lent.meaning (c.next_unlimited.new.location, c.in_ok-value.value)) =
+    ≡ behind (given_node g.V.Lent.meaning c.next_unlimited.new.nodes c.in_ok-value.value) =
     search rules in
     let line = shown ∙ sym (line_alike c.args.lead.now c.args.form n _ given.4) in (
       given.2,
@@ -82,7 +82,7 @@ loop-next-preserved g c =
     let given = rw (c.in-Some.is, c.in_ok-value.was) at c.next_unlimited.ensures.gives in
     let n = given.0 in
     let shown : c.as_bytes.result.now
-    ≡ behind (lent_node g.V.Lent.meaning (c.next_unlimited.new.location, c.in_ok-value.value)) =
+    ≡ behind (given_node g.V.Lent.meaning c.next_unlimited.new.nodes c.in_ok-value.value) =
     search rules in
     let line = shown ∙ sym (line_alike c.args.lead.now c.args.form n _ given.4) in
     record {

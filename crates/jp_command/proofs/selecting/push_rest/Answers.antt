@@ -1,6 +1,6 @@
 use Rattle.std.proofs.Common.{◌≡◌, ◌∷◌, ◌++◌, ◌∙◌, ap, append_assoc, rules, string_bytes, sym, true}
 use Rattle.std.specs.List.{flat_map}
-use Rattle.jp_evaluate.specs.Lent.{lent_node, rest_of}
+use Rattle.jp_evaluate.specs.Lent.{rest_of, given_node}
 use Rattle.jp_select.proofs.Stepping.{takes_then}
 use Rattle.jp_command.specs.Lines.{line_behind, line_of}
 use Rattle.jp_command.specs.Private.Firsts.{is_more}
@@ -18,7 +18,7 @@ loop-form-preserved g c =
     let given = rw (c.in-Some.is, c.in_ok-value.was) at c.next_shown.ensures.gives in
     let n = given.0 in
     let there = line_of c.args.form
-    (lent_node g.V.Lent.meaning (c.next_shown.new.location, c.in_ok-value.value)) in
+    (given_node g.V.Lent.meaning c.next_shown.new.nodes c.in_ok-value.value) in
     let led : string_bytes c.push_str.new.self ≡ old ++ c.args.lead.now = search rules in
     let lined : string_bytes c.push_line.new.line ≡ string_bytes c.push_str.new.self ++ there =
     search rules in

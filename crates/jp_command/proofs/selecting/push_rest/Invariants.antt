@@ -3,14 +3,14 @@ use Rattle.std.specs.List.{flat_map}
 use Rattle.jp_select.specs.Steps.{Takes}
 use Rattle.jp_evaluate.specs.Lent.{has_failed, rest_of, steps_of}
 use Rattle.jp_command.specs.Lines.{line_behind}
-use Rattle.jp_command.specs.Private.Fronts.{HasPathText}
+use Rattle.jp_command.specs.Private.Fronts.{IsAlong}
 use Rattle.jp_command.specs.Selecting.{first_nodes}
 use Rattle.jp_command.proofs.selecting.push_rest.Given as goal
 
 -- the lines so far and those of the nodes to come that are asked for are all lines
 abbrev pub invariant-loop-form : goal.invariant-loop-form
 invariant-loop-form g l = record {
-  front : HasPathText l.front;
+  front : IsAlong l.form l.front l.nodes;
   working : has_failed l.nodes ≡ false;
   all : string_bytes l.lines
       ++ flat_map (line_behind l.lead l.form) (first_nodes l.left (rest_of g.V.Lent.meaning l.nodes))
