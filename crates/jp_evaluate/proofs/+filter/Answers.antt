@@ -180,7 +180,8 @@ walk::Walk::advance-loop-self-preserved g t c =
     (sym c.in_ok-passes.ensures.gives ∙ c.if-branch.false) ∙ c.loop-self.invariant.same in
     record {
       same = same;
-      keeps = keeps_then _ _ _ c.loop-self.invariant.keeps c.next_offer.ensures.keeps;
+      keeps = keeps_then c.args.self.now c.loop-self.self c.next_offer.new.self c.loop-self.invariant.keeps
+          c.next_offer.ensures.keeps;
       taken = takes_then c.loop-self.invariant.taken (takes_then c.take.ensures.takes c.passes.ensures.takes);
     }
 
@@ -225,8 +226,9 @@ walk::Walk::advance-loop-self-preserved-in-Continue-branch-4 g t c =
     ∙ c.loop-self.invariant.same in
     record {
       same = same;
-      keeps = keeps_then _ _ _ (keeps_then _ _ _ c.loop-self.invariant.keeps c.next_offer.ensures.keeps)
-          c.in_ok-enter.ensures.keeps;
+      keeps = keeps_then c.args.self.now c.next_offer.new.self c.enter.new.self
+          (keeps_then c.args.self.now c.loop-self.self c.next_offer.new.self c.loop-self.invariant.keeps
+          c.next_offer.ensures.keeps) c.in_ok-enter.ensures.keeps;
       taken = takes_then c.loop-self.invariant.taken
           (takes_then c.take.ensures.takes (takes_then c.passes.ensures.takes c.take_many.ensures.takes));
     }
@@ -244,19 +246,22 @@ walk::Walk::advance-loop-self-preserved-else-not-is_leaf g t c =
     ∙ c.loop-self.invariant.same in
     record {
       same = same;
-      keeps = keeps_then _ _ _ c.loop-self.invariant.keeps c.next_offer.ensures.keeps;
+      keeps = keeps_then c.args.self.now c.loop-self.self c.next_offer.new.self c.loop-self.invariant.keeps
+          c.next_offer.ensures.keeps;
       taken = takes_then c.loop-self.invariant.taken (takes_then c.take.ensures.takes c.passes.ensures.takes);
     }
 
 pub walk::Walk::advance-returns-in_default-clause-keeps :
     goal.walk::Walk::advance-returns-in_default-clause-keeps
 walk::Walk::advance-returns-in_default-clause-keeps g t c =
-    keeps_then _ _ _ c.loop-self.invariant.keeps c.next_offer.ensures.keeps
+    keeps_then c.args.self.now c.loop-self.self c.next_offer.new.self c.loop-self.invariant.keeps
+          c.next_offer.ensures.keeps
 
 pub walk::Walk::advance-returns-then-offer-segments-clause-keeps :
     goal.walk::Walk::advance-returns-then-offer-segments-clause-keeps
 walk::Walk::advance-returns-then-offer-segments-clause-keeps g t c =
-    keeps_then _ _ _ c.loop-self.invariant.keeps c.next_offer.ensures.keeps
+    keeps_then c.args.self.now c.loop-self.self c.next_offer.new.self c.loop-self.invariant.keeps
+          c.next_offer.ensures.keeps
 
 -- ---- tallies
 

@@ -13,4 +13,5 @@ returns-in_ok-query-clause-rest g c =
     ∙ ap (λ s. nodes_to_come m (m v.evaluation.root) s v.walk) (sym c.in-Unsettled.is)
 
 pub returns-in_ok-query-clause-keeps : goal.returns-in_ok-query-clause-keeps
-returns-in_ok-query-clause-keeps g c = keeps_none _ _ c.from.ensures.kept
+returns-in_ok-query-clause-keeps g c =
+    keeps_none c.args.self.now.walk c.from.result c.from.ensures.kept
