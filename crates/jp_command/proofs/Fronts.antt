@@ -1,7 +1,7 @@
 -- What paths begin with, value by value on the way.
 use Rattle.std.proofs.Common.{◌≡◌, ℕ, zero, suc, ◌+◌, ◌<◌, ◌≤◌, List, [], ◌∷◌, ◌++◌, Option, Some, None}
 use Rattle.std.proofs.Common.{take, length, map, refl, ap, ap₂, sym, ◌∙◌, arith, string_bytes}
-use Rattle.std.proofs.Common.{inl, inr, subst}
+use Rattle.std.proofs.Common.{inl, inr, subst, tt}
 use Rattle.std.proofs.lemmas.Bool.{cases_lt}
 use Rattle.std.proofs.lemmas.Grind.{flat_map-append}
 use Rattle.std.proofs.lemmas.List.{append-nil}
@@ -11,8 +11,11 @@ use Rattle.jp_document.specs.Path.{step_text}
 use Rattle.jp_document.specs.declared.location.Step.{Step}
 use Rattle.jp_evaluate.specs.Lent.{KeepsWay, kept_of, location_of, way_of}
 use Rattle.jp_evaluate.specs.declared.lent.LentNodes.{LentNodes}
-use Rattle.jp_command.specs.Private.Fronts.{Follows, HasPathText, way_text}
+use Rattle.jp_command.specs.Private.Fronts.{ComesAlong, Follows, HasPathText, IsAlong, way_text}
+use Rattle.jp_command.specs.Private.Shown.{KeepsShown}
 use Rattle.jp_command.specs.declared.front.Front.{Front}
+use Rattle.jp_command.specs.declared.lines.Form.{Form}
+use Rattle.jp_command.specs.declared.lines.Form.TheVariants.{Values, Paths, Both}
 
 take_less : {X : Type 0} (k n : ℕ) (xs : List X) → k ≤ n → take k (take n xs) ≡ take k xs
 take_less zero n [] less = refl
@@ -78,3 +81,17 @@ take_past (x ∷ xs) (suc i) past = ap (λ t. x ∷ t) (take_past xs i past)
 pub spelled_all : (ss : List (Option Step)) (i : ℕ) (text : List ℕ) → text ≡ way_text (take i ss)
     → slice_get ss i ≡ None → text ≡ way_text ss
 spelled_all ss i text before past = before ∙ ap way_text (take_past ss i past)
+
+-- ---- by the form of the lines
+
+pub comes_along : {V M : Type 0} (form : Form) (f : Front) (v w : LentNodes V M) → IsAlong form f v
+    → KeepsShown form v w → ComesAlong form f w
+comes_along Values f v w along keeps = tt
+comes_along Paths f v w along keeps = comes f v w along keeps
+comes_along Both f v w along keeps = comes f v w along keeps
+
+pub along_none : {V M : Type 0} (form : Form) (f : Front) (v : LentNodes V M) → f.count ≡ 0
+    → string_bytes f.text ≡ [] → IsAlong form f v
+along_none Values f v none empty = tt
+along_none Paths f v none empty = has_none f v none empty
+along_none Both f v none empty = has_none f v none empty

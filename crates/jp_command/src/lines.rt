@@ -99,6 +99,7 @@ pub(crate) fn push_after_path<V: Selectable>(
 /// nodelist's order (RFC 9535 section 2.1.2), each behind the text `lead`. The evaluation takes from
 /// `steps` those that it makes; what was read of the patterns is kept for the next document. The
 /// errors are that memory ran out and that the steps are used up.
+#[tactic(auto, using(crate::proofs::Fronts::along_none))]
 pub fn selected_lines<'d: 'q, 'q, V: Selectable + 'd>(
     alloc: Global,
     form: Form,

@@ -66,6 +66,7 @@ pub fn push_selected<'d: 'q, 'q, V: Selectable + 'd>(
 }
 
 /// Appends the lines of the nodes that are still to come, behind the first `from` ones, of all or of so many.
+#[tactic(auto, using(crate::proofs::Fronts::along_none))]
 fn push_behind<'d: 'q, 'q, V: Selectable + 'd>(
     form: Form,
     from: u64,

@@ -1,19 +1,26 @@
 use Rattle.std.proofs.Common.{◌≡◌, ◌∙◌, rules, sym}
 use Rattle.jp_evaluate.specs.Lent.{given_node}
 use Rattle.jp_command.specs.Lines.{line_behind}
+use Rattle.jp_command.proofs.Fronts.{along_none, comes_along}
 use Rattle.jp_command.proofs.LineLemmas.{given_more, given_none, given_part, goes-for_memory, line_alike}
 use Rattle.jp_command.proofs.LineLemmas.{part-goes, part-is_prefix, stops-for_memory}
 use Rattle.jp_command.proofs.lines.write_lines.Goals as goal
 
 pub loop-next-init : goal.loop-next-init
 loop-next-init g c = record {
-  front = search rules;
+  front = along_none c.args.form c.new-front.result c.args.nodes.now c.new-front.ensures.count
+      c.new-front.ensures.text;
   working = search rules;
   unlimited = search rules;
   written = given_none g.W.Writer.contents g.W.Writer.has_failed g.W.Writer.write_takes
       (line_behind c.args.lead.now c.args.form) _ _;
   works = search rules;
 }
+
+pub push_line-requires : goal.push_line-requires
+push_line-requires g c =
+    comes_along c.args.form c.loop-next.front c.loop-next.nodes c.next_unlimited.new.nodes
+    c.loop-next.invariant.front (rw (c.in-Some.is, c.in_ok-value.was) at c.next_unlimited.ensures.keeps)
 
 pub returns-in_err-value-clause-stopped : goal.returns-in_err-value-clause-stopped
 returns-in_err-value-clause-stopped g c =

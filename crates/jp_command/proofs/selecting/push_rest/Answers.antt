@@ -6,8 +6,14 @@ use Rattle.jp_command.specs.Lines.{line_behind, line_of}
 use Rattle.jp_command.specs.Private.Firsts.{is_more}
 use Rattle.jp_command.specs.Selecting.{first_nodes}
 use Rattle.jp_command.proofs.Firsts.{first_more}
+use Rattle.jp_command.proofs.Fronts.{comes_along}
 use Rattle.jp_command.proofs.LineLemmas.{line_alike}
 use Rattle.jp_command.proofs.selecting.push_rest.Goals as goal
+
+pub push_line-requires : goal.push_line-requires
+push_line-requires g c =
+    comes_along c.args.form c.loop-form.front c.loop-form.nodes c.next_shown.new.nodes
+    c.loop-form.invariant.front (rw (c.in-Some.is, c.in_ok-value.was) at c.next_shown.ensures.keeps)
 
 pub loop-form-preserved : goal.loop-form-preserved
 loop-form-preserved g c =
