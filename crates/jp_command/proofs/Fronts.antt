@@ -1,7 +1,7 @@
 -- What paths begin with, value by value on the way.
 use Rattle.std.proofs.Common.{◌≡◌, ℕ, zero, suc, ◌+◌, ◌<◌, ◌≤◌, List, [], ◌∷◌, ◌++◌, Option, Some, None}
 use Rattle.std.proofs.Common.{take, length, map, refl, ap, ap₂, sym, ◌∙◌, arith, string_bytes}
-use Rattle.std.proofs.Common.{inl, inr, subst, tt}
+use Rattle.std.proofs.Common.{inl, inr, subst}
 use Rattle.std.proofs.lemmas.Bool.{cases_lt}
 use Rattle.std.proofs.lemmas.Grind.{flat_map-append}
 use Rattle.std.proofs.lemmas.List.{append-nil}
@@ -54,22 +54,23 @@ goes_back f g kept v is follows back same = elim (cases_lt kept f.count) [
       subst (λ h. HasPathText h v) (sym (same fits)) (follows (subst (λ k. f.count ≤ k) is fits))
 ]
 
-take_one_more : {X : Type 0} (xs : List X) (i : ℕ) (x : X) → slice_get xs i ≡ Some x
-    → take (i + 1) xs ≡ take i xs ++ x ∷ []
-take_one_more [] i x at = absurd (cc)
-take_one_more (y ∷ ys) zero x at =
+take_next : {X : Type 0} (xs : List X) (i : ℕ) (x : X) → slice_get xs i ≡ Some x
+    → take (suc i) xs ≡ take i xs ++ x ∷ []
+take_next [] i x at = absurd (cc)
+take_next (y ∷ ys) zero x at =
     ap (λ z. z ∷ take 0 ys) (same_Some y x at) ∙ ap (λ t. x ∷ t) (take_nothing ys)
-take_one_more (y ∷ ys) (suc i) x at = ap (λ t. y ∷ t) (take_one_more ys i x at)
+take_next (y ∷ ys) (suc i) x at = ap (λ t. y ∷ t) (take_next ys i x at)
 
 -- one value more is spelled
 pub spelled_more : (ss : List (Option Step)) (i : ℕ) (s : Option Step) (text : List ℕ)
     → text ≡ way_text (take i ss) → slice_get ss i ≡ Some s
     → text ++ flat_map step_text (location_of s) ≡ way_text (take (i + 1) ss)
 spelled_more ss i s text before at =
+    let next : i + 1 ≡ suc i = omega arith in
     ap₂ (λ t u. t ++ u) before (ap (flat_map step_text) (sym (append-nil (location_of s))))
     ∙ sym (flat_map-append step_text (flat_map location_of (take i ss)) (flat_map location_of (s ∷ [])))
     ∙ ap (flat_map step_text) (sym (flat_map-append location_of (take i ss) (s ∷ [])))
-    ∙ ap way_text (sym (take_one_more ss i s at))
+    ∙ ap way_text (sym (ap (λ k. take k ss) next ∙ take_next ss i s at))
 
 take_past : {X : Type 0} (xs : List X) (i : ℕ) → slice_get xs i ≡ None → take i xs ≡ xs
 take_past [] zero past = refl

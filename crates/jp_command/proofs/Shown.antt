@@ -1,5 +1,5 @@
 -- Nodes of which a line shows what a call gives.
-use Rattle.std.proofs.Common.{Option, Some, None, Result, Ok, Err, IfSome, OnOk, refl, tt}
+use Rattle.std.proofs.Common.{Option, Some, None, Result, Ok, Err, IfSome, OnOk, refl}
 use Rattle.jp_document.specs.Node.{node_at}
 use Rattle.jp_document.specs.Value.{Value}
 use Rattle.jp_evaluate.specs.Lent.{GivesNextValue, has_failed, rest_of, given_node}
