@@ -255,13 +255,13 @@ pub walk::Walk::advance-returns-in_default-clause-keeps :
     goal.walk::Walk::advance-returns-in_default-clause-keeps
 walk::Walk::advance-returns-in_default-clause-keeps g t c =
     keeps_then c.args.self.now c.loop-self.self c.next_offer.new.self c.loop-self.invariant.keeps
-          c.next_offer.ensures.keeps
+    c.next_offer.ensures.keeps
 
 pub walk::Walk::advance-returns-then-offer-segments-clause-keeps :
     goal.walk::Walk::advance-returns-then-offer-segments-clause-keeps
 walk::Walk::advance-returns-then-offer-segments-clause-keeps g t c =
     keeps_then c.args.self.now c.loop-self.self c.next_offer.new.self c.loop-self.invariant.keeps
-          c.next_offer.ensures.keeps
+    c.next_offer.ensures.keeps
 
 -- ---- tallies
 
