@@ -2,7 +2,6 @@
 use Rattle.std.proofs.Common.{◌≡◌, inr, ℕ, ◌<◌, Bool, true, false, List, [], ◌∷◌, ◌++◌}
 use Rattle.std.proofs.Common.{length, Option, subst, refl, sym, ◌∙◌, ap, arith, string_bytes}
 use Rattle.std.proofs.lemmas.List.Folds.{list_all-append}
-use Rattle.jp_tree.specs.Tree.{QueryTree}
 use Rattle.jp_command.specs.Limits.{document_limit}
 use Rattle.jp_command.specs.declared.fault.Fault.TheVariants as fault
 use Rattle.jp_lines.specs.Lines.{lines_of_input, newline}
@@ -11,6 +10,7 @@ use Rattle.jp_lines.specs.Run.{GoesToRefusal, StopsAmong}
 use Rattle.jp_lines.specs.Private.Passing.{EndsLine, Keeps, Passes, PassesOn, Standing}
 use Rattle.jp_lines.specs.Private.Passing.{StopsPassing, is_in_line, kept_of, standing}
 use Rattle.jp_lines.specs.Private.Treating.{StopsEnding}
+use Rattle.jp_lines.specs.Task.{Task}
 use Rattle.jp_lines.specs.declared.defect.Defect.TheVariants.{TooLarge}
 use Rattle.jp_lines.specs.declared.defect.RefusedLine.{RefusedLine}
 use Rattle.jp_lines.specs.declared.options.Options.{Options}
@@ -24,16 +24,16 @@ use Rattle.jp_lines.proofs.Splitting.{lines-ended, lines-in_line, lines-some, li
 
 module _ (options : Options) {W E : Type 0} (contents : W → Option (List ℕ))
     (writes_failed : W → Bool) (reports : E → Option (List ℕ)) (reports_failed : E → Bool)
-    (q : QueryTree) where
+    (task : Task) where
   abbrev On : List ℕ → Progress → Progress → List ℕ → W → W → E → E → Type 0
-  On = PassesOn options contents writes_failed reports reports_failed q
+  On = PassesOn options contents writes_failed reports reports_failed task
 
   abbrev Stops : ℕ → List (List ℕ) → Type 0 → ℕ → W → W → E → E → Stop → Type 0
-  Stops = StopsAmong options contents writes_failed reports reports_failed q
+  Stops = StopsAmong options contents writes_failed reports reports_failed task
 
   -- the lines that ended and the one that has begun
   pub passes-all : (bytes : List ℕ) (s t : Standing) (o p : W) (u v : E)
-      → (passes : Passes options contents writes_failed reports reports_failed q bytes s t o p u v)
+      → (passes : Passes options contents writes_failed reports reports_failed task bytes s t o p u v)
       → is_in_line t.line ≡ true
       → lines_of_input (s.line ++ bytes) ≡ passes.lines ++ t.line ∷ []
   passes-all bytes s t o p u v passes in_line =
@@ -46,7 +46,7 @@ module _ (options : Options) {W E : Type 0} (contents : W → Option (List ℕ))
   on-none a line o u keeps = record {
     next = line;
     keeps = keeps;
-    passes = passes-none options contents writes_failed reports reports_failed q
+    passes = passes-none options contents writes_failed reports reports_failed task
         (standing a line) o u;
   }
 
@@ -59,36 +59,36 @@ module _ (options : Options) {W E : Type 0} (contents : W → Option (List ℕ))
   on-kept taken piece a b c line o p u v on in_line number refused kept = record {
     next = on.next ++ piece;
     keeps = (list_all-append _ on.next piece ∙ rw (on.keeps.0, in_line) refl, kept on.next on.keeps.1);
-    passes = passes-more options contents writes_failed reports reports_failed q taken piece _ _ _
+    passes = passes-more options contents writes_failed reports reports_failed task taken piece _ _ _
         _ _ _ _ _ _ on.passes
-        (passes-kept options contents writes_failed reports reports_failed q piece
+        (passes-kept options contents writes_failed reports reports_failed task piece
         (standing b on.next) (standing c (on.next ++ piece)) p v number refused refl);
   }
 
   -- a newline ends the line
   pub on-ended : (taken : List ℕ) (a b c : Progress) (line : List ℕ) (o p r : W) (u v w : E)
       → (on : On taken a b line o p u v)
-      → EndsLine options contents writes_failed reports reports_failed q b c on.next p r v w
+      → EndsLine options contents writes_failed reports reports_failed task b c on.next p r v w
       → On (taken ++ newline ∷ []) a c line o r u w
   on-ended taken a b c line o p r u v w on ends = record {
     next = [];
     keeps = ends.keeps;
-    passes = passes-more options contents writes_failed reports reports_failed q taken
+    passes = passes-more options contents writes_failed reports reports_failed task taken
         (newline ∷ []) _ _ _ _ _ _ _ _ _ on.passes
-        (passes-end options contents writes_failed reports reports_failed q
+        (passes-end options contents writes_failed reports reports_failed task
         (standing b on.next) (standing c []) p r v w on.keeps.0 refl ends.over);
   }
 
   -- there is no memory to keep what comes
   pub on-stops_keeping : (taken rest : List ℕ) (a b : Progress) (line : List ℕ) (o p : W) (u v : E)
       → On taken a b line o p u v
-      → StopsPassing options contents writes_failed reports reports_failed q (taken ++ rest) a line
+      → StopsPassing options contents writes_failed reports reports_failed task (taken ++ rest) a line
       o p u v (stop.Run fault.NoMemory)
   on-stops_keeping taken rest a b line o p u v on =
       subst (λ all. Stops a.number all (false ≡ true) 0 o p u v (stop.Run fault.NoMemory))
-      (sym (passes-lines options contents writes_failed reports reports_failed q taken rest _ _
+      (sym (passes-lines options contents writes_failed reports reports_failed task taken rest _ _
       o p u v on.passes)) (
-        part-over options contents writes_failed reports reports_failed q on.passes.lines _ _ 0 _ _
+        part-over options contents writes_failed reports reports_failed task on.passes.lines _ _ 0 _ _
             o p u v (lines-some (on.next ++ rest)) (omega arith) on.passes.over,
         on.passes.over.goes.writes.works,
       )
@@ -96,18 +96,18 @@ module _ (options : Options) {W E : Type 0} (contents : W → Option (List ℕ))
   -- the run stops at the line that a newline ends
   pub on-stops_ending : (taken rest : List ℕ) (a b : Progress) (line : List ℕ) (o p r : W)
       (u v w : E) (why : Stop) → (on : On taken a b line o p u v)
-      → StopsEnding options contents writes_failed reports reports_failed q b.number on.next
+      → StopsEnding options contents writes_failed reports reports_failed task b.number on.next
       p r v w why
-      → StopsPassing options contents writes_failed reports reports_failed q
+      → StopsPassing options contents writes_failed reports reports_failed task
       (taken ++ newline ∷ rest) a line o r u w why
   on-stops_ending taken rest a b line o p r u v w why on stops =
       subst (λ all. Stops a.number all (false ≡ true) 0 o r u w why)
-      (sym (passes-lines options contents writes_failed reports reports_failed q taken
+      (sym (passes-lines options contents writes_failed reports reports_failed task taken
       (newline ∷ rest) _ _ o p u v on.passes
       ∙ ap (λ l. on.passes.lines ++ l) (lines-in_line on.next rest on.keeps.0)))
-      (stops-after options contents writes_failed reports reports_failed q on.passes.lines _ _ 0 0
+      (stops-after options contents writes_failed reports reports_failed task on.passes.lines _ _ 0 0
       _ _ o p r u v w why (omega arith) on.passes.over
-      (stops-longer options contents writes_failed reports reports_failed q b.number
+      (stops-longer options contents writes_failed reports reports_failed task b.number
       (on.next ∷ []) (lines_of_input rest) _ _ 0 p r v w why (lines-some rest) stops))
 
   -- the line has more bytes than a document may have
@@ -115,7 +115,7 @@ module _ (options : Options) {W E : Type 0} (contents : W → Option (List ℕ))
       (r : RefusedLine) → On taken a b line o p u v → document_limit < length b.line.items
       → r.number ≡ b.number → r.defect ≡ TooLarge → string_bytes r.explanation ≡ []
       → options.keep_going ≡ false
-      → GoesToRefusal options contents writes_failed reports reports_failed q a.number
+      → GoesToRefusal options contents writes_failed reports reports_failed task a.number
       (lines_of_input (line ++ taken)) (false ≡ true) 0 r o p u v
   on-stops_growing taken a b line o p u v r on many number defect behind stops = record {
     lines = on.passes.lines;
@@ -126,7 +126,7 @@ module _ (options : Options) {W E : Type 0} (contents : W → Option (List ℕ))
     goes = on.passes.over.goes;
     unrefused = not_then _ _ on.passes.over.goes.allowed stops;
     comes = subst
-        (λ n. ComesTo options q n on.next (Refused r)) on.passes.over.number
+        (λ n. ComesTo options task n on.next (Refused r)) on.passes.over.number
         (defective TooLarge r (too_large (kept-many on.next (rw on.keeps.1 at many)))
         (record { number_is = number; defect_is = defect; behind = behind }));
     complete = inr (inr defect);

@@ -6,18 +6,18 @@ use Rattle.std.proofs.lemmas.List.{append-nil, length-take-le}
 use Rattle.std.specs.Result.{IsErrAnd}
 use Rattle.std.specs.Io.KnownBytes.{Consumes, IsAtEnd, Keeps as KeepsBytes}
 use Rattle.jp_check.specs.declared.profile.Profile.{Profile}
-use Rattle.jp_tree.specs.Tree.{QueryTree}
 use Rattle.jp_command.specs.Limits.{chunk_size, document_limit}
 use Rattle.jp_command.specs.Reads.{none, one_more}
-use Rattle.jp_command.specs.Run.{IsAsked}
 use Rattle.jp_command.specs.declared.fault.Fault.TheVariants as fault
 use Rattle.jp_lines.specs.Lines.{lines_of_input}
 use Rattle.jp_lines.specs.Reads.{ReadsMore, ReadsSome, ReadsToEnd, ReadsToFailure, by_one_more}
 use Rattle.jp_lines.specs.Reads.{so_far, to_end}
+use Rattle.jp_lines.specs.Request.{IsTaskOf, Request}
 use Rattle.jp_lines.specs.Run.{Goes, StopsAmong, StopsAtLine}
 use Rattle.jp_lines.specs.Private.Asking.{RunsAsked}
 use Rattle.jp_lines.specs.Private.Passing.{GoesThrough, Passes, Standing, is_in_line}
 use Rattle.jp_lines.specs.Private.Treating.{StopsEnding}
+use Rattle.jp_lines.specs.Task.{Task}
 use Rattle.jp_lines.specs.declared.options.Options.{Options}
 use Rattle.jp_lines.specs.declared.stop.Stop.{Stop}
 use Rattle.jp_lines.specs.declared.stop.Stop.TheVariants as stop
@@ -105,16 +105,16 @@ module _ (profile : Profile) (options : Options) {R W E : Type 0}
     (remaining : R → Option (List ℕ)) (has_failed : R → Bool)
     (read_gives : R → Option (List ℕ) → R → Type 0) (contents : W → Option (List ℕ))
     (writes_failed : W → Bool) (reports : E → Option (List ℕ)) (reports_failed : E → Bool)
-    (q : QueryTree) (text : List ℕ) (asked : IsAsked profile text q) where
+    (task : Task) (request : Request) (asked : IsTaskOf profile request task) where
   abbrev Pass : List ℕ → Standing → Standing → W → W → E → E → Type 0
-  Pass = Passes options contents writes_failed reports reports_failed q
+  Pass = Passes options contents writes_failed reports reports_failed task
 
   abbrev Stops : ℕ → List (List ℕ) → Type 0 → ℕ → W → W → E → E → Stop → Type 0
-  Stops = StopsAmong options contents writes_failed reports reports_failed q
+  Stops = StopsAmong options contents writes_failed reports reports_failed task
 
   abbrev Runs : R → R → W → W → E → E → Result Bool Stop → Type 0
   Runs = RunsAsked profile options remaining has_failed read_gives contents writes_failed reports
-      reports_failed text
+      reports_failed request
 
   -- the line that has begun is not too large for a run that does not go on
   abbrev Few : List ℕ → Type 0
@@ -124,21 +124,21 @@ module _ (profile : Profile) (options : Options) {R W E : Type 0}
   pub runs-end : (i j : R) (bytes : List ℕ) (s t : Standing) (o p r : W) (u v w : E)
       → ReadsToEnd remaining has_failed read_gives i j bytes → Pass bytes at_start s o p u v
       → is_in_line s.line ≡ true
-      → GoesThrough options contents writes_failed reports reports_failed q (s.line ∷ []) s t p r v w
+      → GoesThrough options contents writes_failed reports reports_failed task (s.line ∷ []) s t p r v w
       → Runs i j o r u w (Ok t.refused)
   runs-end i j bytes s t o p r u v w reads passes in_line over =
-      let all = over-more options contents writes_failed reports reports_failed q passes.lines
+      let all = over-more options contents writes_failed reports reports_failed task passes.lines
       (s.line ∷ []) at_start s t o p r u v w passes.over over in
       record {
-        q = q;
+        task = task;
         asked = asked;
         bytes = bytes;
         reads = reads;
         outcomes = all.outcomes;
         goes = subst
-            (λ ls. Goes options contents writes_failed reports reports_failed q 1 ls all.outcomes
+            (λ ls. Goes options contents writes_failed reports reports_failed task 1 ls all.outcomes
             o r u w)
-            (sym (passes-all options contents writes_failed reports reports_failed q bytes at_start
+            (sym (passes-all options contents writes_failed reports reports_failed task bytes at_start
             s o p u v passes in_line))
             all.goes;
         is = all.refused;
@@ -149,13 +149,13 @@ module _ (profile : Profile) (options : Options) {R W E : Type 0}
       → ReadsToFailure remaining has_failed read_gives i j bytes → Pass bytes at_start s o p u v
       → is_in_line s.line ≡ true → Few s.line → Runs i j o p u v (Err (stop.Run fault.Read))
   runs-fail i j bytes s o p u v reads passes in_line few = record {
-    q = q;
+    task = task;
     asked = asked;
     bytes = bytes;
     reads = reads;
     lines = passes.lines;
     last = s.line;
-    split = passes-all options contents writes_failed reports reports_failed q bytes at_start s
+    split = passes-all options contents writes_failed reports reports_failed task bytes at_start s
         o p u v passes in_line;
     few = few;
     outcomes = passes.over.outcomes;
@@ -165,7 +165,7 @@ module _ (profile : Profile) (options : Options) {R W E : Type 0}
   -- a run that stopped at a line said so
   runs-stop : (i j : R) (o p : W) (u v : E) (why : Stop)
       → StopsAtLine profile options remaining has_failed read_gives contents writes_failed reports
-      reports_failed text i j o p u v why
+      reports_failed request i j o p u v why
       → Runs i j o p u v (Err why)
   runs-stop i j o p u v (stop.Line r) stops = stops
   runs-stop i j o p u v (stop.Run fault.NoMemory) stops = stops
@@ -183,7 +183,7 @@ module _ (profile : Profile) (options : Options) {R W E : Type 0}
       → Runs i j o r u w (Err why)
   runs-stop_in i j bytes more s o p r u v w why reads passes in_line few stops =
       runs-stop i j o r u w why (record {
-        q = q;
+        task = task;
         asked = asked;
         before = bytes;
         rest = more;
@@ -191,13 +191,13 @@ module _ (profile : Profile) (options : Options) {R W E : Type 0}
         reads = by_one_more reads;
         ended = passes.lines;
         begun = s.line;
-        split = passes-all options contents writes_failed reports reports_failed q bytes at_start s
+        split = passes-all options contents writes_failed reports reports_failed task bytes at_start s
             o p u v passes in_line;
         few = few;
         stops = subst (λ all. Stops 1 all (false ≡ true) (length passes.lines) o r u w why)
-            (sym (passes-lines options contents writes_failed reports reports_failed q bytes more
+            (sym (passes-lines options contents writes_failed reports reports_failed task bytes more
             at_start s o p u v passes))
-            (stops-after options contents writes_failed reports reports_failed q passes.lines _ _ 0
+            (stops-after options contents writes_failed reports reports_failed task passes.lines _ _ 0
             _ at_start s o p r u v w why (omega arith) passes.over stops);
       })
 
@@ -205,14 +205,14 @@ module _ (profile : Profile) (options : Options) {R W E : Type 0}
   pub runs-stop_last : (i j : R) (bytes : List ℕ) (s : Standing) (o p r : W) (u v w : E)
       (why : Stop) → ReadsToEnd remaining has_failed read_gives i j bytes
       → Pass bytes at_start s o p u v → is_in_line s.line ≡ true → Few s.line
-      → StopsEnding options contents writes_failed reports reports_failed q s.number s.line
+      → StopsEnding options contents writes_failed reports reports_failed task s.number s.line
       p r v w why
       → Runs i j o r u w (Err why)
   runs-stop_last i j bytes s o p r u v w why reads passes in_line few stops =
-      let lines = passes-all options contents writes_failed reports reports_failed q bytes at_start s
+      let lines = passes-all options contents writes_failed reports reports_failed task bytes at_start s
       o p u v passes in_line in
       runs-stop i j o r u w why (record {
-        q = q;
+        task = task;
         asked = asked;
         before = bytes;
         rest = [];
@@ -224,9 +224,9 @@ module _ (profile : Profile) (options : Options) {R W E : Type 0}
         few = few;
         stops = subst (λ all. Stops 1 all (true ≡ true) (length passes.lines) o r u w why)
             (sym (ap lines_of_input (append-nil bytes) ∙ lines))
-            (stops-after options contents writes_failed reports reports_failed q passes.lines _ _ 0
+            (stops-after options contents writes_failed reports reports_failed task passes.lines _ _ 0
             _ at_start s o p r u v w why (omega arith) passes.over
-            (stops-whole options contents writes_failed reports reports_failed q s.number
+            (stops-whole options contents writes_failed reports reports_failed task s.number
             (s.line ∷ []) _ _ 0 p r v w why refl stops));
       })
 
@@ -236,10 +236,10 @@ module _ (profile : Profile) (options : Options) {R W E : Type 0}
       → ReadsSome remaining has_failed read_gives i j bytes → Pass bytes at_start s o p u v
       → is_in_line s.line ≡ true → Few s.line → Runs i j o p u v (Err (stop.Run fault.NoMemory))
   runs-stop_reading i j bytes s o p u v reads passes in_line few =
-      let lines = passes-all options contents writes_failed reports reports_failed q bytes at_start s
+      let lines = passes-all options contents writes_failed reports reports_failed task bytes at_start s
       o p u v passes in_line in
       record {
-        q = q;
+        task = task;
         asked = asked;
         before = bytes;
         rest = [];
@@ -252,7 +252,7 @@ module _ (profile : Profile) (options : Options) {R W E : Type 0}
         stops = subst
             (λ ls. Stops 1 ls (false ≡ true) (length passes.lines) o p u v (stop.Run fault.NoMemory))
             (sym (ap lines_of_input (append-nil bytes) ∙ lines)) (
-              part-over options contents writes_failed reports reports_failed q passes.lines _ _ _
+              part-over options contents writes_failed reports reports_failed task passes.lines _ _ _
                   at_start s o p u v (λ is. cc) (omega arith) passes.over,
               passes.over.goes.writes.works,
             );
@@ -262,5 +262,5 @@ module _ (profile : Profile) (options : Options) {R W E : Type 0}
   pub runs-stop_unread : (i : R) (o : W) (u : E) → Runs i i o o u u (Err (stop.Run fault.NoMemory))
   runs-stop_unread i o u =
       runs-stop_reading i i [] at_start o o u u (reads-none remaining has_failed read_gives i)
-      (passes-none options contents writes_failed reports reports_failed q at_start o u) refl
+      (passes-none options contents writes_failed reports reports_failed task at_start o u) refl
       (λ is. omega arith)

@@ -5,16 +5,17 @@ use Rattle.std.proofs.KnownBytes.{Keeps-trans}
 use Rattle.std.proofs.lemmas.List.{append-nil, length-append}
 use Rattle.std.specs.Io.KnownBytes.{Keeps}
 use Rattle.jp_check.specs.declared.profile.Profile.{Profile}
-use Rattle.jp_tree.specs.Tree.{QueryTree}
 use Rattle.jp_command.specs.declared.fault.Fault.TheVariants as fault
 use Rattle.jp_command.proofs.Streams.{Appends-keeps}
 use Rattle.jp_lines.specs.Lines.{lines_of_input}
 use Rattle.jp_lines.specs.Outcome.{LineOutcome}
 use Rattle.jp_lines.specs.Program.{RunsAndFlushes}
 use Rattle.jp_lines.specs.Reads.{to_end}
+use Rattle.jp_lines.specs.Request.{Request}
 use Rattle.jp_lines.specs.Run.{Goes, GoesInPart, GoesToRefusal, RunsLines, StopsAmong, StopsAtLine}
 use Rattle.jp_lines.specs.Run.{WritesInPart}
 use Rattle.jp_lines.specs.Private.Asking.{RunsAsked}
+use Rattle.jp_lines.specs.Task.{Task}
 use Rattle.jp_lines.specs.declared.defect.RefusedLine.{RefusedLine}
 use Rattle.jp_lines.specs.declared.options.Options.{Options}
 use Rattle.jp_lines.specs.declared.stop.Stop.{Stop}
@@ -23,16 +24,16 @@ use Rattle.jp_lines.proofs.Going.{not_then}
 use Rattle.jp_lines.proofs.Outcomes.{few-last}
 use Rattle.jp_lines.proofs.Splitting.{last-line, lines-some}
 
--- what is said of a query that was read is what a run says
+-- what is said of a known task is what a run says
 pub runs-asked : (profile : Profile) (options : Options) {R W E : Type 0}
     (remaining : R → Option (List ℕ)) (has_failed : R → Bool)
     (read_gives : R → Option (List ℕ) → R → Type 0) (contents : W → Option (List ℕ))
     (writes_failed : W → Bool) (reports : E → Option (List ℕ)) (reports_failed : E → Bool)
-    (text : List ℕ) (i j : R) (o p : W) (u v : E) (answer : Result Bool Stop)
+    (request : Request) (i j : R) (o p : W) (u v : E) (answer : Result Bool Stop)
     → RunsAsked profile options remaining has_failed read_gives contents writes_failed reports
-    reports_failed text i j o p u v answer
+    reports_failed request i j o p u v answer
     → RunsLines profile options remaining has_failed read_gives contents writes_failed reports
-    reports_failed text i j o p u v answer
+    reports_failed request i j o p u v answer
 runs-asked _ _ _ _ _ _ _ _ _ _ _ _ _ _ _ _ (Ok refused) run = run
 runs-asked _ _ _ _ _ _ _ _ _ _ _ _ _ _ _ _ (Err (stop.Line line)) run = run
 runs-asked _ _ _ _ _ _ _ _ _ _ _ _ _ _ _ _ (Err (stop.Run fault.NoMemory)) run = inr run
@@ -47,26 +48,26 @@ module _ (profile : Profile) (options : Options) {R W E : Type 0}
     (remaining : R → Option (List ℕ)) (has_failed : R → Bool)
     (read_gives : R → Option (List ℕ) → R → Type 0) (contents : W → Option (List ℕ))
     (writes_failed : W → Bool) (reports : E → Option (List ℕ)) (reports_failed : E → Bool)
-    (text : List ℕ) (i j : R) (o p r : W) (u v : E) where
+    (request : Request) (i j : R) (o p r : W) (u v : E) where
   abbrev RunsTo : W → Result Bool Stop → Type 0
   RunsTo output = RunsAsked profile options remaining has_failed read_gives contents writes_failed
-      reports reports_failed text i j o output u v
+      reports reports_failed request i j o output u v
 
   abbrev Flushes : Result Bool Stop → Type 0
   Flushes = RunsAndFlushes remaining has_failed read_gives contents writes_failed reports
-      reports_failed options profile text i j o r u v
+      reports_failed options profile request i j o r u v
 
-  abbrev GoesTo : QueryTree → ℕ → List (List ℕ) → List LineOutcome → W → Type 0
-  GoesTo q number lines outcomes output =
-      Goes options contents writes_failed reports reports_failed q number lines outcomes o output u v
+  abbrev GoesTo : Task → ℕ → List (List ℕ) → List LineOutcome → W → Type 0
+  GoesTo task number lines outcomes output =
+      Goes options contents writes_failed reports reports_failed task number lines outcomes o output u v
 
   abbrev StopsTo : W → Stop → Type 0
   StopsTo output = StopsAtLine profile options remaining has_failed read_gives contents writes_failed
-      reports reports_failed text i j o output u v
+      reports reports_failed request i j o output u v
 
-  abbrev PartTo : QueryTree → ℕ → List (List ℕ) → Type 0 → ℕ → W → Type 0
-  PartTo q number all at_end ended output =
-      GoesInPart options contents writes_failed reports reports_failed q number all at_end ended
+  abbrev PartTo : Task → ℕ → List (List ℕ) → Type 0 → ℕ → W → Type 0
+  PartTo task number all at_end ended output =
+      GoesInPart options contents writes_failed reports reports_failed task number all at_end ended
       o output u v
 
   -- without a flush
@@ -81,9 +82,9 @@ module _ (profile : Profile) (options : Options) {R W E : Type 0}
   runs-unflushed (Err (stop.Run fault.DocumentTooLarge)) run = absurd run
 
   module _ (kept : Keeps (contents p) (contents r)) where
-    part-kept : (q : QueryTree) (number : ℕ) (all : List (List ℕ)) (at_end : Type 0) (ended : ℕ)
-        → PartTo q number all at_end ended p → PartTo q number all at_end ended r
-    part-kept q number all at_end ended part = record {
+    part-kept : (task : Task) (number : ℕ) (all : List (List ℕ)) (at_end : Type 0) (ended : ℕ)
+        → PartTo task number all at_end ended p → PartTo task number all at_end ended r
+    part-kept task number all at_end ended part = record {
       lines = part.lines;
       rest = part.rest;
       front = part.front;
@@ -96,7 +97,7 @@ module _ (profile : Profile) (options : Options) {R W E : Type 0}
     }
       where
         In : W → Type 0
-        In = WritesInPart options contents writes_failed reports reports_failed q
+        In = WritesInPart options contents writes_failed reports reports_failed task
             (number + length part.lines) part.rest at_end part.between
 
         next : Keeps (contents part.between) (contents p) ⊎ In p
@@ -117,10 +118,10 @@ module _ (profile : Profile) (options : Options) {R W E : Type 0}
           };
         })
 
-    goes-kept : (q : QueryTree) (number : ℕ) (lines : List (List ℕ)) (outcomes : List LineOutcome)
-        → writes_failed r ≡ writes_failed p → GoesTo q number lines outcomes p
-        → GoesTo q number lines outcomes r
-    goes-kept q number lines outcomes works goes = record {
+    goes-kept : (task : Task) (number : ℕ) (lines : List (List ℕ)) (outcomes : List LineOutcome)
+        → writes_failed r ≡ writes_failed p → GoesTo task number lines outcomes p
+        → GoesTo task number lines outcomes r
+    goes-kept task number lines outcomes works goes = record {
       come = goes.come;
       writes = record {
         written = Appends-keeps _ _ _ _ goes.writes.written kept;
@@ -133,11 +134,11 @@ module _ (profile : Profile) (options : Options) {R W E : Type 0}
 
     -- a run that stopped at a line stopped there, for that reason or another
     stops-as : (why other : Stop) (run : StopsTo p why)
-        → StopsAmong options contents writes_failed reports reports_failed run.q 1
+        → StopsAmong options contents writes_failed reports reports_failed run.task 1
         (lines_of_input (run.before ++ run.rest)) (run.at_end ≡ true) (length run.ended) o r u v other
         → StopsTo r other
     stops-as why other run stops = record {
-      q = run.q;
+      task = run.task;
       asked = run.asked;
       before = run.before;
       rest = run.rest;
@@ -150,19 +151,19 @@ module _ (profile : Profile) (options : Options) {R W E : Type 0}
       stops = stops;
     }
 
-    refusal-kept : (q : QueryTree) (number : ℕ) (all : List (List ℕ)) (at_end : Type 0) (ended : ℕ)
+    refusal-kept : (task : Task) (number : ℕ) (all : List (List ℕ)) (at_end : Type 0) (ended : ℕ)
         (line : RefusedLine) → writes_failed r ≡ writes_failed p
-        → GoesToRefusal options contents writes_failed reports reports_failed q number all at_end
+        → GoesToRefusal options contents writes_failed reports reports_failed task number all at_end
         ended line o p u v
-        → GoesToRefusal options contents writes_failed reports reports_failed q number all at_end
+        → GoesToRefusal options contents writes_failed reports reports_failed task number all at_end
         ended line o r u v
-    refusal-kept q number all at_end ended line works stops = record {
+    refusal-kept task number all at_end ended line works stops = record {
       lines = stops.lines;
       line = stops.line;
       rest = stops.rest;
       split = stops.split;
       outcomes = stops.outcomes;
-      goes = goes-kept q number stops.lines stops.outcomes works stops.goes;
+      goes = goes-kept task number stops.lines stops.outcomes works stops.goes;
       unrefused = stops.unrefused;
       comes = stops.comes;
       complete = stops.complete;
@@ -174,22 +175,22 @@ module _ (profile : Profile) (options : Options) {R W E : Type 0}
     flushed : (answer : Result Bool Stop) → writes_failed r ≡ writes_failed p → RunsTo p answer
         → RunsTo r answer
     flushed (Ok refused) works run = record {
-      q = run.q;
+      task = run.task;
       asked = run.asked;
       bytes = run.bytes;
       reads = run.reads;
       outcomes = run.outcomes;
-      goes = goes-kept run.q 1 (lines_of_input run.bytes) run.outcomes works run.goes;
+      goes = goes-kept run.task 1 (lines_of_input run.bytes) run.outcomes works run.goes;
       is = run.is;
     }
     flushed (Err (stop.Line line)) works run =
         stops-as (stop.Line line) (stop.Line line) run
-        (refusal-kept run.q 1 _ (run.at_end ≡ true) (length run.ended) line works run.stops)
+        (refusal-kept run.task 1 _ (run.at_end ≡ true) (length run.ended) line works run.stops)
     flushed (Err (stop.Run fault.NoMemory)) works run =
         stops-as (stop.Run fault.NoMemory) (stop.Run fault.NoMemory) run
-        (part-kept run.q 1 _ _ _ run.stops.0, works ∙ run.stops.1)
+        (part-kept run.task 1 _ _ _ run.stops.0, works ∙ run.stops.1)
     flushed (Err (stop.Run fault.Read)) works run = record {
-      q = run.q;
+      task = run.task;
       asked = run.asked;
       bytes = run.bytes;
       reads = run.reads;
@@ -198,11 +199,11 @@ module _ (profile : Profile) (options : Options) {R W E : Type 0}
       split = run.split;
       few = run.few;
       outcomes = run.outcomes;
-      goes = goes-kept run.q 1 run.lines run.outcomes works run.goes;
+      goes = goes-kept run.task 1 run.lines run.outcomes works run.goes;
     }
     flushed (Err (stop.Run fault.Write)) works run =
         stops-as (stop.Run fault.Write) (stop.Run fault.Write) run
-        (part-kept run.q 1 _ _ _ run.stops.0, works ∙ run.stops.1)
+        (part-kept run.task 1 _ _ _ run.stops.0, works ∙ run.stops.1)
     flushed (Err (stop.Run (fault.Query f))) works run = absurd run
     flushed (Err (stop.Run (fault.Document f))) works run = absurd run
     flushed (Err (stop.Run fault.DocumentTooLarge)) works run = absurd run
@@ -218,7 +219,7 @@ module _ (profile : Profile) (options : Options) {R W E : Type 0}
         let all = lines_of_input run.bytes in
         let last = last-line all (lines-some run.bytes) in
         record {
-          q = run.q;
+          task = run.task;
           asked = run.asked;
           before = run.bytes;
           rest = [];
@@ -227,7 +228,7 @@ module _ (profile : Profile) (options : Options) {R W E : Type 0}
           ended = last.0;
           begun = last.1;
           split = last.2;
-          few = λ stays. few-last options run.q 1 all run.outcomes last.0 last.1 run.goes.come last.2
+          few = λ stays. few-last options run.task 1 all run.outcomes last.0 last.1 run.goes.come last.2
               (not_then _ _ run.goes.allowed stays);
           stops = (
             record {
@@ -271,12 +272,12 @@ module _ (profile : Profile) (options : Options) {R W E : Type 0}
     flush-fails (Err (stop.Line line)) fails run = inl (refused-fails line fails run)
     flush-fails (Err (stop.Run fault.NoMemory)) fails run =
         inl (stops-as (stop.Run fault.NoMemory) (stop.Run fault.Write) run
-        (part-kept run.q 1 _ _ _ run.stops.0, fails))
+        (part-kept run.task 1 _ _ _ run.stops.0, fails))
     flush-fails (Err (stop.Run fault.Read)) fails run =
         inr (record { between = p; reads = run; kept = kept; fails = fails })
     flush-fails (Err (stop.Run fault.Write)) fails run =
         inl (stops-as (stop.Run fault.Write) (stop.Run fault.Write) run
-        (part-kept run.q 1 _ _ _ run.stops.0, fails))
+        (part-kept run.task 1 _ _ _ run.stops.0, fails))
     flush-fails (Err (stop.Run (fault.Query f))) fails run = absurd run
     flush-fails (Err (stop.Run (fault.Document f))) fails run = absurd run
     flush-fails (Err (stop.Run fault.DocumentTooLarge)) fails run = absurd run

@@ -8,10 +8,8 @@ use Rattle.jp_tree.specs.Tree.{QueryTree}
 use Rattle.jp_evaluate.specs.Named.{NamesLocation}
 use Rattle.jp_evaluate.specs.Nodelist.{nodelist}
 use Rattle.jp_command.specs.Found.{found_nodes}
-use Rattle.jp_lines.specs.Outcome.{wanted_output}
-use Rattle.jp_lines.specs.Private.Answers.{nodes_output}
+use Rattle.jp_lines.specs.Task.{nodes_output}
 use Rattle.jp_lines.specs.declared.options.Wanted.{Wanted}
-use Rattle.jp_lines.specs.declared.options.Wanted.TheVariants.{Nodes, Count}
 
 module _ {V : Type 0} (m : V → Value) where
   -- it is the one node that the query selects
@@ -24,8 +22,6 @@ module _ {V : Type 0} (m : V → Value) where
   pub found-wanted : (wanted : Wanted) (lead : List ℕ) (q : QueryTree) (d : Value)
       (ks : List Step) (found : Option V) → NamesLocation q (map step_of ks)
       → value_at d (map step_of ks) ≡ option_map m found
-      → nodes_output wanted lead (found_nodes m ks found) ≡ wanted_output wanted lead q d
-  found-wanted (Nodes form) lead q d ks found names at =
-      ap (nodes_output (Nodes form) lead) (found-selected q d ks found names at)
-  found-wanted Count lead q d ks found names at =
-      ap (nodes_output Count lead) (found-selected q d ks found names at)
+      → nodes_output wanted lead (found_nodes m ks found) ≡ nodes_output wanted lead (nodelist q d)
+  found-wanted wanted lead q d ks found names at =
+      ap (nodes_output wanted lead) (found-selected q d ks found names at)

@@ -8,7 +8,6 @@ use Rattle.std.proofs.lemmas.List.{append-nil, length-append}
 use Rattle.std.proofs.lemmas.List.Folds.{list_all-append, list_any-append}
 use Rattle.std.proofs.Math.Bool.{or_assoc, or-false}
 use Rattle.std.specs.Io.KnownBytes.{Keeps}
-use Rattle.jp_tree.specs.Tree.{QueryTree}
 use Rattle.jp_command.specs.Output.{WritesAll}
 use Rattle.jp_command.specs.declared.fault.Fault.TheVariants.{Query, Document, DocumentTooLarge}
 use Rattle.jp_command.specs.declared.fault.Fault.TheVariants.{NoMemory, Read, Write}
@@ -18,6 +17,7 @@ use Rattle.jp_lines.specs.Outcome.{is_refused, some_refused}
 use Rattle.jp_lines.specs.Run.{Goes, GoesInPart, StopsAmong, WritesInPart}
 use Rattle.jp_lines.specs.Told.{Tells}
 use Rattle.jp_lines.specs.Private.Passing.{GoesThrough, Passes, Standing, ended, is_in_line}
+use Rattle.jp_lines.specs.Task.{Task}
 use Rattle.jp_lines.specs.declared.options.Options.{Options}
 use Rattle.jp_lines.specs.declared.stop.Stop.{Stop}
 use Rattle.jp_lines.specs.declared.stop.Stop.TheVariants.{Run, Line}
@@ -44,18 +44,18 @@ append-some (x ∷ xs) ys some is = cc
 
 module _ (options : Options) {W E : Type 0} (contents : W → Option (List ℕ))
     (writes_failed : W → Bool) (reports : E → Option (List ℕ)) (reports_failed : E → Bool)
-    (q : QueryTree) where
+    (task : Task) where
   abbrev Go : ℕ → List (List ℕ) → List LineOutcome → W → W → E → E → Type 0
-  Go = Goes options contents writes_failed reports reports_failed q
+  Go = Goes options contents writes_failed reports reports_failed task
 
   abbrev Over : List (List ℕ) → Standing → Standing → W → W → E → E → Type 0
-  Over = GoesThrough options contents writes_failed reports reports_failed q
+  Over = GoesThrough options contents writes_failed reports reports_failed task
 
   abbrev Pass : List ℕ → Standing → Standing → W → W → E → E → Type 0
-  Pass = Passes options contents writes_failed reports reports_failed q
+  Pass = Passes options contents writes_failed reports reports_failed task
 
   abbrev Stops : ℕ → List (List ℕ) → Type 0 → ℕ → W → W → E → E → Stop → Type 0
-  Stops = StopsAmong options contents writes_failed reports reports_failed q
+  Stops = StopsAmong options contents writes_failed reports reports_failed task
 
   pub goes-none : (n : ℕ) (o : W) (u : E) → Go n [] [] o o u u
   goes-none n o u = record {
@@ -70,7 +70,7 @@ module _ (options : Options) {W E : Type 0} (contents : W → Option (List ℕ))
       → Go n ls xs o p u v → Go (n + length ls) ms ys p r v w
       → Go n (ls ++ ms) (xs ++ ys) o r u w
   goes-more n ls ms xs ys o p r u v w first second = record {
-    come = come-append options q n ls ms xs ys first.come second.come;
+    come = come-append options task n ls ms xs ys first.come second.come;
     writes = subst (WritesAll contents writes_failed o r) (sym (flat_map-append written_of xs ys))
         (writes-more contents writes_failed o p r _ _ first.writes second.writes);
     tells = subst (Tells reports reports_failed u w) (sym (flat_map-append told_of xs ys))
@@ -165,11 +165,11 @@ module _ (options : Options) {W E : Type 0} (contents : W → Option (List ℕ))
       ∙ lines-ended passes.lines (t.line ++ rest) passes.whole
 
   abbrev Part : ℕ → List (List ℕ) → Type 0 → ℕ → W → W → E → E → Type 0
-  Part = GoesInPart options contents writes_failed reports reports_failed q
+  Part = GoesInPart options contents writes_failed reports reports_failed task
 
   abbrev Next : ℕ → List (List ℕ) → Type 0 → W → W → Type 0
   Next n rest A p r = Keeps (contents p) (contents r)
-      ⊎ WritesInPart options contents writes_failed reports reports_failed q n rest A p r
+      ⊎ WritesInPart options contents writes_failed reports reports_failed task n rest A p r
 
   -- what is gone over is so in part
   pub part-over : (ls more : List (List ℕ)) (A : Type 0) (k : ℕ) (s t : Standing) (o p : W) (u v : E)
@@ -273,7 +273,7 @@ module _ (options : Options) {W E : Type 0} (contents : W → Option (List ℕ))
         (subst (λ n. Go n stops.lines stops.outcomes p r v w) over.number stops.goes);
     unrefused = list_any-append is_refused over.outcomes stops.outcomes
         ∙ neither _ _ (not_then _ _ over.goes.allowed stops.stops) stops.unrefused;
-    comes = subst (λ n. ComesTo options q n stops.line (Refused line))
+    comes = subst (λ n. ComesTo options task n stops.line (Refused line))
         (omega (arith, over.number, length-append ls stops.lines)) stops.comes;
     complete = stops.complete;
     answered = omega (arith, among, length-append ls stops.lines);

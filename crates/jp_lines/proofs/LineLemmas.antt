@@ -13,7 +13,6 @@ use Rattle.jp_document.specs.Document.{IsDocument, IsDocumentFault}
 use Rattle.jp_document.specs.Value.{Value}
 use Rattle.jp_document.specs.declared.fault.DocumentFault.{DocumentFault}
 use Rattle.jp_document.specs.declared.fault.DocumentFault.TheVariants as document
-use Rattle.jp_tree.specs.Tree.{QueryTree}
 use Rattle.jp_command.specs.Limits.{document_limit}
 use Rattle.jp_command.specs.Output.{AppendsPrefix, StopsWriting, WritesAll}
 use Rattle.jp_command.specs.declared.fault.Fault.{Fault}
@@ -22,7 +21,7 @@ use Rattle.jp_command.proofs.Streams.{Appends-keeps, prefix-whole}
 use Rattle.jp_lines.specs.Lines.{is_blank_line}
 use Rattle.jp_lines.specs.Outcome.{LineOutcome, Answered, Refused, ComesTo, blank, document}
 use Rattle.jp_lines.specs.Outcome.{IsDefective, IsRefusal, defective, no_document, steps_used_up}
-use Rattle.jp_lines.specs.Outcome.{lead_of, told_of, wanted_output}
+use Rattle.jp_lines.specs.Outcome.{lead_of, told_of}
 use Rattle.jp_lines.specs.Run.{Goes, GoesInPart, WritesInPart}
 use Rattle.jp_lines.specs.Told.{Tells}
 use Rattle.jp_lines.specs.Private.Answers.{AnswersOrRefuses, AnswersInPart, AnswersLine}
@@ -31,6 +30,7 @@ use Rattle.jp_lines.specs.Private.Answers.{defect_of}
 use Rattle.jp_lines.specs.Private.Limits.{WritesOrGivesUp}
 use Rattle.jp_lines.specs.Private.Passing.{GoesThrough, Standing, kept_of}
 use Rattle.jp_lines.specs.Private.Treating.{Treats, StopsEnding}
+use Rattle.jp_lines.specs.Task.{Task, written_for}
 use Rattle.jp_lines.specs.declared.defect.Defect.{Defect}
 use Rattle.jp_lines.specs.declared.defect.Defect.TheVariants as defect
 use Rattle.jp_lines.specs.declared.defect.RefusedLine.{RefusedLine}
@@ -48,12 +48,12 @@ err-is (Ok x) e P is holds = absurd is
 err-is (Err x) e P is holds = subst P (sym is) holds
 
 module _ {W : Type 0} (contents : W → Option (List ℕ)) (has_failed : W → Bool) (options : Options)
-    (q : QueryTree) (n : ℕ) (line : List ℕ) where
+    (task : Task) (n : ℕ) (line : List ℕ) where
   abbrev output : Value → List ℕ
-  output d = wanted_output options.wanted (lead_of options.numbered n) q d
+  output d = written_for task (lead_of options.numbered n) line d
 
   pub answers-blank : (o : W) → length line ≤ document_limit → is_blank_line line ≡ true
-      → AnswersLine contents has_failed options q n line o o
+      → AnswersLine contents has_failed options task n line o o
   answers-blank o few is = record {
     output = [];
     comes = blank few is;
@@ -63,7 +63,7 @@ module _ {W : Type 0} (contents : W → Option (List ℕ)) (has_failed : W → B
   pub answers-document : (d : Value) (o p : W) → length line ≤ document_limit
       → is_blank_line line ≡ false → IsDocument line d
       → WritesAll contents has_failed o p (output d)
-      → AnswersLine contents has_failed options q n line o p
+      → AnswersLine contents has_failed options task n line o p
   answers-document d o p few some is writes = record {
     output = output d;
     comes = document d few some is;
@@ -74,7 +74,7 @@ module _ {W : Type 0} (contents : W → Option (List ℕ)) (has_failed : W → B
   pub answers-wanted : (d : Value) (o p : W) (given : Option Defect) → length line ≤ document_limit
       → is_blank_line line ≡ false → IsDocument line d
       → WritesOrGivesUp contents has_failed options.limit (output d) o p given
-      → AnswersOrRefuses contents has_failed options q n line o p given
+      → AnswersOrRefuses contents has_failed options task n line o p given
   answers-wanted d o p None few some is writes = answers-document d o p few some is writes
   answers-wanted d o p (Some (defect.StepsUsedUp made)) few some is up =
       (steps_used_up d made few some is up.0, up.1)
@@ -84,7 +84,7 @@ module _ {W : Type 0} (contents : W → Option (List ℕ)) (has_failed : W → B
   pub stops-document : (d : Value) (o p : W) (f : Fault) → length line ≤ document_limit
       → is_blank_line line ≡ false → IsDocument line d
       → StopsWriting contents has_failed o p (output d) f
-      → StopsAnswering contents has_failed options q n line o p f
+      → StopsAnswering contents has_failed options task n line o p f
   stops-document d o p fault.NoMemory few some is stops =
       (inr (record { output = output d; comes = document d few some is; writes = stops.0 }), stops.1)
   stops-document d o p fault.Write few some is stops =
@@ -97,8 +97,8 @@ module _ {W : Type 0} (contents : W → Option (List ℕ)) (has_failed : W → B
   -- what is no document is refused, and want of memory stops
   pub refuses-document : (f : DocumentFault) (o : W) → length line ≤ document_limit
       → is_blank_line line ≡ false → IsDocumentFault line f
-      → IfOk (defect_of f) (AnswersOrRefuses contents has_failed options q n line o o)
-      × IfErr (defect_of f) (StopsAnswering contents has_failed options q n line o o)
+      → IfOk (defect_of f) (AnswersOrRefuses contents has_failed options task n line o o)
+      × IfErr (defect_of f) (StopsAnswering contents has_failed options task n line o o)
   refuses-document document.NoMemory o few some is = (tt, (inl refl, refl))
   refuses-document document.NotJson o few some is =
       ((no_document document.NotJson few some is (λ e. cc), refl), tt)
@@ -109,20 +109,20 @@ module _ {W : Type 0} (contents : W → Option (List ℕ)) (has_failed : W → B
 
 module _ (options : Options) {W E : Type 0} (contents : W → Option (List ℕ))
     (writes_failed : W → Bool) (reports : E → Option (List ℕ)) (reports_failed : E → Bool)
-    (q : QueryTree) (n : ℕ) (kept line : List ℕ) (is : kept ≡ kept_of line) where
+    (task : Task) (n : ℕ) (kept line : List ℕ) (is : kept ≡ kept_of line) where
   abbrev Comes : LineOutcome → Type 0
-  Comes = ComesTo options q n kept
+  Comes = ComesTo options task n kept
 
   abbrev Ends : W → W → E → E → Stop → Type 0
-  Ends = StopsEnding options contents writes_failed reports reports_failed q n line
+  Ends = StopsEnding options contents writes_failed reports reports_failed task n line
 
-  comes-line : (x : LineOutcome) → Comes x → ComesTo options q n line x
-  comes-line x comes = comes-kept options q n line x (subst (λ l. ComesTo options q n l x) is comes)
+  comes-line : (x : LineOutcome) → Comes x → ComesTo options task n line x
+  comes-line x comes = comes-kept options task n line x (subst (λ l. ComesTo options task n l x) is comes)
 
   pub treats-answered : (o p r : W) (u : E)
-      → AnswersLine contents writes_failed options q n kept o p
+      → AnswersLine contents writes_failed options task n kept o p
       → Keeps (contents p) (contents r) → writes_failed r ≡ writes_failed p
-      → Treats options contents writes_failed reports reports_failed q n line false o r u u
+      → Treats options contents writes_failed reports reports_failed task n line false o r u u
   treats-answered o p r u answers keeps works = record {
     outcome = Answered answers.output;
     comes = comes-line _ answers.comes;
@@ -139,7 +139,7 @@ module _ (options : Options) {W E : Type 0} (contents : W → Option (List ℕ))
   pub treats-refused : (d : Defect) (r : RefusedLine) (o p : W) (u v : E)
       → IsDefective options kept d → IsRefusal options n kept d r → p ≡ o
       → Tells reports reports_failed u v (told_of (Refused r)) → options.keep_going ≡ true
-      → Treats options contents writes_failed reports reports_failed q n line true o p u v
+      → Treats options contents writes_failed reports reports_failed task n line true o p u v
   treats-refused d r o p u v has of same tells going = record {
     outcome = Refused r;
     comes = comes-line _ (defective d r has of);
@@ -154,8 +154,8 @@ module _ (options : Options) {W E : Type 0} (contents : W → Option (List ℕ))
   -- nothing of the line is told, and of what is to be written of it nothing, or a prefix
   in-part : (o p : W) (u v : E) → v ≡ u
       → Keeps (contents o) (contents p)
-      ⊎ WritesInPart options contents writes_failed reports reports_failed q n (line ∷ []) ⊤ o p
-      → GoesInPart options contents writes_failed reports reports_failed q n (line ∷ []) ⊤ 0 o p u v
+      ⊎ WritesInPart options contents writes_failed reports reports_failed task n (line ∷ []) ⊤ o p
+      → GoesInPart options contents writes_failed reports reports_failed task n (line ∷ []) ⊤ 0 o p u v
   in-part o p u v told next = record {
     lines = [];
     rest = line ∷ [];
@@ -163,24 +163,24 @@ module _ (options : Options) {W E : Type 0} (contents : W → Option (List ℕ))
     complete = inr tt;
     outcomes = [];
     between = o;
-    goes = subst (λ w. Goes options contents writes_failed reports reports_failed q n [] [] o o u w)
-        (sym told) (goes-none options contents writes_failed reports reports_failed q n o u);
+    goes = subst (λ w. Goes options contents writes_failed reports reports_failed task n [] [] o o u w)
+        (sym told) (goes-none options contents writes_failed reports reports_failed task n o u);
     answered = omega arith;
     next = subst
         (λ m. Keeps (contents o) (contents p)
-        ⊎ WritesInPart options contents writes_failed reports reports_failed q m (line ∷ []) ⊤ o p)
+        ⊎ WritesInPart options contents writes_failed reports reports_failed task m (line ∷ []) ⊤ o p)
         (omega arith) next;
   }
 
   part-none : (o p : W) (u v : E) → p ≡ o → v ≡ u
-      → GoesInPart options contents writes_failed reports reports_failed q n (line ∷ []) ⊤ 0 o p u v
+      → GoesInPart options contents writes_failed reports reports_failed task n (line ∷ []) ⊤ 0 o p u v
   part-none o p u v written told =
       in-part o p u v told
       (inl (subst (λ r. Keeps (contents o) (contents r)) (sym written) (Keeps-refl (contents o))))
 
   part-written : (text : List ℕ) (o p : W) (u : E) → Comes (Answered text)
       → AppendsPrefix (contents o) (contents p) text
-      → GoesInPart options contents writes_failed reports reports_failed q n (line ∷ []) ⊤ 0 o p u u
+      → GoesInPart options contents writes_failed reports reports_failed task n (line ∷ []) ⊤ 0 o p u u
   part-written text o p u comes writes =
       in-part o p u u refl (inr (record {
         line = line;
@@ -193,11 +193,11 @@ module _ (options : Options) {W E : Type 0} (contents : W → Option (List ℕ))
       }))
 
   pub stops-answering : (f : Fault) (o p : W) (u : E)
-      → StopsAnswering contents writes_failed options q n kept o p f → Ends o p u u (stop.Run f)
+      → StopsAnswering contents writes_failed options task n kept o p f → Ends o p u u (stop.Run f)
   stops-answering fault.NoMemory o p u stops = (go stops.0, stops.1)
     where
-      go : (p ≡ o) ⊎ AnswersInPart contents writes_failed options q n kept o p
-          → GoesInPart options contents writes_failed reports reports_failed q n (line ∷ []) ⊤ 0
+      go : (p ≡ o) ⊎ AnswersInPart contents writes_failed options task n kept o p
+          → GoesInPart options contents writes_failed reports reports_failed task n (line ∷ []) ⊤ 0
           o p u u
       go (inl same) = part-none o p u u same refl
       go (inr part) = part-written part.output o p u part.comes part.writes
@@ -210,7 +210,7 @@ module _ (options : Options) {W E : Type 0} (contents : W → Option (List ℕ))
 
   -- the flush after its answer failed
   pub stops-flushing : (o p r : W) (u : E)
-      → AnswersLine contents writes_failed options q n kept o p
+      → AnswersLine contents writes_failed options task n kept o p
       → Keeps (contents p) (contents r) → writes_failed r ≡ true
       → Ends o r u u (stop.Run fault.Write)
   stops-flushing o p r u answers keeps fails = (
@@ -235,12 +235,12 @@ module _ (options : Options) {W E : Type 0} (contents : W → Option (List ℕ))
         rest = [];
         split = refl;
         outcomes = [];
-        goes = subst (λ r. Goes options contents writes_failed reports reports_failed q n [] [] o r u v)
+        goes = subst (λ r. Goes options contents writes_failed reports reports_failed task n [] [] o r u v)
             (sym written)
-            (subst (λ w. Goes options contents writes_failed reports reports_failed q n [] [] o o u w)
-            (sym told) (goes-none options contents writes_failed reports reports_failed q n o u));
+            (subst (λ w. Goes options contents writes_failed reports reports_failed task n [] [] o o u w)
+            (sym told) (goes-none options contents writes_failed reports reports_failed task n o u));
         unrefused = refl;
-        comes = subst (λ m. ComesTo options q m line (Refused is.0.0)) (omega arith)
+        comes = subst (λ m. ComesTo options task m line (Refused is.0.0)) (omega arith)
             (comes-line _ (defective d is.0.0 has is.0.1));
         complete = inr (inl tt);
         answered = omega arith;
@@ -249,13 +249,13 @@ module _ (options : Options) {W E : Type 0} (contents : W → Option (List ℕ))
 
 module _ (options : Options) {W E : Type 0} (contents : W → Option (List ℕ))
     (writes_failed : W → Bool) (reports : E → Option (List ℕ)) (reports_failed : E → Bool)
-    (q : QueryTree) where
+    (task : Task) where
   goes-line : (n : ℕ) (line : List ℕ) (refused : Bool) (o p : W) (u v : E)
-      → (treats : Treats options contents writes_failed reports reports_failed q n line refused o p u v)
-      → Goes options contents writes_failed reports reports_failed q n (line ∷ [])
+      → (treats : Treats options contents writes_failed reports reports_failed task n line refused o p u v)
+      → Goes options contents writes_failed reports reports_failed task n (line ∷ [])
       (treats.outcome ∷ []) o p u v
   goes-line n line refused o p u v treats = record {
-    come = come-one options q n line treats.outcome treats.comes;
+    come = come-one options task n line treats.outcome treats.comes;
     writes = subst (WritesAll contents writes_failed o p) (sym (append-nil _)) treats.writes;
     tells = subst (Tells reports reports_failed u v) (sym (append-nil _)) treats.tells;
     allowed = λ e. treats.allowed (sym (or-false _) ∙ e);
@@ -264,9 +264,9 @@ module _ (options : Options) {W E : Type 0} (contents : W → Option (List ℕ))
 
   -- a line that is treated is gone over
   pub over-line : (s t : Standing) (refused : Bool) (o p : W) (u v : E)
-      → Treats options contents writes_failed reports reports_failed q s.number s.line refused o p u v
+      → Treats options contents writes_failed reports reports_failed task s.number s.line refused o p u v
       → t.number ≡ suc s.number → t.refused ≡ (s.refused || refused)
-      → GoesThrough options contents writes_failed reports reports_failed q (s.line ∷ []) s t o p u v
+      → GoesThrough options contents writes_failed reports reports_failed task (s.line ∷ []) s t o p u v
   over-line s t refused o p u v treats number is = record {
     outcomes = treats.outcome ∷ [];
     goes = goes-line s.number s.line refused o p u v treats;
@@ -276,8 +276,8 @@ module _ (options : Options) {W E : Type 0} (contents : W → Option (List ℕ))
 
   -- there are no numbers for the lines behind it
   pub stops-counting : (n : ℕ) (line : List ℕ) (refused : Bool) (o p : W) (u v : E)
-      → Treats options contents writes_failed reports reports_failed q n line refused o p u v
-      → StopsEnding options contents writes_failed reports reports_failed q n line o p u v
+      → Treats options contents writes_failed reports reports_failed task n line refused o p u v
+      → StopsEnding options contents writes_failed reports reports_failed task n line o p u v
       (stop.Run fault.NoMemory)
   stops-counting n line refused o p u v treats = (
     record {

@@ -8,14 +8,16 @@ use Rattle.jp_check.specs.declared.profile.Profile.{Profile}
 use Rattle.jp_command.specs.Output.{WritesAll}
 use Rattle.jp_command.specs.Run.{IsAsked, IsOutput}
 use Rattle.jp_command.specs.declared.lines.Form.{Form}
+use Rattle.jp_evaluate.specs.Nodelist.{nodelist}
 use Rattle.jp_tree.specs.Tree.{QueryTree}
 use Rattle.jp_lines.specs.Laws.{OneLineIsADocument}
 use Rattle.jp_lines.specs.Lines.{is_blank_line, lines_of_input}
 use Rattle.jp_lines.specs.Outcome.{LineOutcome, ComesTo, ComeTo, none, one_more, blank, document}
 use Rattle.jp_lines.specs.Outcome.{defective, is_refused, lead_of}
 use Rattle.jp_lines.specs.Outcome.{some_refused}
-use Rattle.jp_lines.specs.Outcome.{wanted_output, written_of, written_of_all}
+use Rattle.jp_lines.specs.Outcome.{written_of, written_of_all}
 use Rattle.jp_lines.specs.Reads.{ReadsToEnd}
+use Rattle.jp_lines.specs.Task.{Select, Task, nodes_output}
 use Rattle.jp_lines.specs.declared.options.Options.{Options}
 use Rattle.jp_lines.specs.declared.options.Wanted.TheVariants.{Nodes}
 use Rattle.jp_lines.proofs.Outcomes.{heads, tails}
@@ -34,21 +36,21 @@ consumed-all (Some xs) (Some ys) came bytes consumes ended is =
     some-same : (x y : List ℕ) → Some x ≡ Some y → x ≡ y
     some-same x y same = cc
 
-module _ (options : Options) (q : QueryTree) where
-  come-nil : (n : ℕ) (ls : List (List ℕ)) (xs : List LineOutcome) → ComeTo options q n ls xs → ls ≡ []
+module _ (options : Options) (task : Task) where
+  come-nil : (n : ℕ) (ls : List (List ℕ)) (xs : List LineOutcome) → ComeTo options task n ls xs → ls ≡ []
       → xs ≡ []
   come-nil n ls xs (none m) is = refl
   come-nil n ls xs (one_more m l more x rest comes come) is = cc
 
   -- one line has one outcome
   come-single : (n : ℕ) (ls : List (List ℕ)) (xs : List LineOutcome) (line : List ℕ)
-      → ComeTo options q n ls xs → ls ≡ line ∷ []
-      → (x : LineOutcome) × (xs ≡ x ∷ []) × ComesTo options q n line x
+      → ComeTo options task n ls xs → ls ≡ line ∷ []
+      → (x : LineOutcome) × (xs ≡ x ∷ []) × ComesTo options task n line x
   come-single n ls xs line (none m) is = cc
   come-single n ls xs line (one_more m l more x rest comes come) is = (
     x,
     ap (λ t. x ∷ t) (come-nil (suc m) more rest come (tails l line more [] is)),
-    subst (λ t. ComesTo options q m t x) (heads l line more [] is) comes,
+    subst (λ t. ComesTo options task m t x) (heads l line more [] is) comes,
   )
 
 module _ (profile : Profile) {R W E : Type 0} (remaining : R → Option (List ℕ))
@@ -60,12 +62,12 @@ module _ (profile : Profile) {R W E : Type 0} (remaining : R → Option (List �
 
   -- the outcome of a line that is neither blank nor refused is what a run over it writes
   outcome-is : (form : Form) (options : Options) (q : QueryTree) (text bytes : List ℕ) (i j : R)
-      (x : LineOutcome) → options.wanted ≡ Nodes form → options.numbered ≡ false
+      (x : LineOutcome) → options.numbered ≡ false
       → IsAsked profile text q → ReadsToEnd remaining has_failed read_gives i j bytes
-      → is_blank_line bytes ≡ false → is_refused x ≡ false → ComesTo options q 1 bytes x
+      → is_blank_line bytes ≡ false → is_refused x ≡ false → ComesTo options (Select (Nodes form) q) 1 bytes x
       → Output form text i j (written_of x)
-  outcome-is form options q text bytes i j x wanted numbered asked reads some unrefused (blank few is) = cc
-  outcome-is form options q text bytes i j x wanted numbered asked reads some unrefused
+  outcome-is form options q text bytes i j x numbered asked reads some unrefused (blank few is) = cc
+  outcome-is form options q text bytes i j x numbered asked reads some unrefused
       (document d few is doc) = record {
         q = q;
         bytes = bytes;
@@ -81,25 +83,26 @@ module _ (profile : Profile) {R W E : Type 0} (remaining : R → Option (List �
           last = reads.last;
         };
         document = doc;
-        is = ap (λ w. wanted_output w (lead_of options.numbered 1) q d) wanted
-            ∙ ap (λ b. wanted_output (Nodes form) (lead_of b 1) q d) numbered;
+        is = ap (λ b. nodes_output (Nodes form) (lead_of b 1) (nodelist q d)) numbered;
       }
-  outcome-is form options q text bytes i j x wanted numbered asked reads some unrefused
+  outcome-is form options q text bytes i j x numbered asked reads some unrefused
       (defective d r has of) = cc
 
   pub one_line : OneLineIsADocument profile remaining has_failed read_gives contents writes_failed
       reports reports_failed
-  one_line form options text bytes i j o p u v wanted numbered known single some runs =
+  one_line form options text bytes i j o p u v numbered known single some runs =
+      let q = runs.asked.0 in
+      let task = Select (Nodes form) q in
       let same = consumed-all (remaining i) (remaining j) runs.bytes bytes runs.reads.came
       runs.reads.ended known in
-      let come = subst (λ b. ComeTo options runs.q 1 (lines_of_input b) runs.outcomes) same
-      runs.goes.come in
-      let one = come-single options runs.q 1 (lines_of_input bytes) runs.outcomes bytes come single in
+      let come = subst (λ b. ComeTo options task 1 (lines_of_input b) runs.outcomes) same
+      (subst (λ t. ComeTo options t 1 (lines_of_input runs.bytes) runs.outcomes) runs.asked.1 runs.goes.come) in
+      let one = come-single options task 1 (lines_of_input bytes) runs.outcomes bytes come single in
       let unrefused : is_refused one.0 ≡ false =
       sym (or-false (is_refused one.0)) ∙ sym (ap some_refused one.1) ∙ sym runs.is in
       record {
         output = written_of one.0;
-        is = outcome-is form options runs.q text bytes i j one.0 wanted numbered runs.asked
+        is = outcome-is form options q text bytes i j one.0 numbered runs.asked.2
             (subst (ReadsToEnd remaining has_failed read_gives i j) same runs.reads) some
             unrefused one.2;
         writes = subst (WritesAll contents writes_failed o p)

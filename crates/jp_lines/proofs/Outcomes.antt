@@ -8,10 +8,10 @@ use Rattle.jp_lines.specs.Outcome.{IsDefective, IsRefusal, blank, document, no_d
 use Rattle.jp_lines.specs.Outcome.{steps_used_up, too_large}
 use Rattle.jp_lines.specs.Outcome.{is_refused, some_refused}
 use Rattle.jp_lines.specs.Private.Passing.{kept_of}
+use Rattle.jp_lines.specs.Task.{Task}
 use Rattle.jp_lines.specs.declared.defect.Defect.{Defect}
 use Rattle.jp_lines.specs.declared.defect.RefusedLine.{RefusedLine}
 use Rattle.jp_lines.specs.declared.options.Options.{Options}
-use Rattle.jp_tree.specs.Tree.{QueryTree}
 
 -- a line that is not too large is kept whole
 pub kept-all : (l : List ℕ) → length (kept_of l) ≤ document_limit → kept_of l ≡ l
@@ -33,45 +33,45 @@ pub none_of : (a b : Bool) → (a || b) ≡ false → (a ≡ false) × (b ≡ fa
 none_of true b is = cc
 none_of false b is = (refl, is)
 
-module _ (options : Options) (q : QueryTree) where
-  pub come-one : (n : ℕ) (l : List ℕ) (x : LineOutcome) → ComesTo options q n l x
-      → ComeTo options q n (l ∷ []) (x ∷ [])
+module _ (options : Options) (task : Task) where
+  pub come-one : (n : ℕ) (l : List ℕ) (x : LineOutcome) → ComesTo options task n l x
+      → ComeTo options task n (l ∷ []) (x ∷ [])
   come-one n l x comes = one_more n l [] x [] comes (none (suc n))
 
   pub come-append : (n : ℕ) (ls ms : List (List ℕ)) (xs ys : List LineOutcome)
-      → ComeTo options q n ls xs → ComeTo options q (n + length ls) ms ys
-      → ComeTo options q n (ls ++ ms) (xs ++ ys)
+      → ComeTo options task n ls xs → ComeTo options task (n + length ls) ms ys
+      → ComeTo options task n (ls ++ ms) (xs ++ ys)
   come-append n ls ms xs ys (none m) after =
-      subst (λ k. ComeTo options q k ms ys) (omega arith) after
+      subst (λ k. ComeTo options task k ms ys) (omega arith) after
   come-append n ls ms xs ys (one_more m l more x rest comes come) after =
       one_more n l (more ++ ms) x (rest ++ ys) comes
       (come-append (suc n) more ms rest ys come
-      (subst (λ k. ComeTo options q k ms ys) (omega arith) after))
+      (subst (λ k. ComeTo options task k ms ys) (omega arith) after))
 
   -- a refusal of a line is seen from what is kept of it
   refused-kept : (n : ℕ) (l : List ℕ) (d : Defect) (r : RefusedLine)
       → IsDefective options (kept_of l) d → IsRefusal options n (kept_of l) d r
-      → ComesTo options q n l (Refused r)
+      → ComesTo options task n l (Refused r)
   refused-kept n l d r (no_document fault few some is known) of =
-      subst (λ t. ComesTo options q n t (Refused r)) (kept-all l few)
+      subst (λ t. ComesTo options task n t (Refused r)) (kept-all l few)
       (defective d r (no_document fault few some is known) of)
   refused-kept n l d r (too_large many) of =
       defective d r (too_large (kept-many l many))
       (record { number_is = of.number_is; defect_is = of.defect_is; behind = of.behind })
   refused-kept n l d r (steps_used_up doc made few some is limit) of =
-      subst (λ t. ComesTo options q n t (Refused r)) (kept-all l few)
+      subst (λ t. ComesTo options task n t (Refused r)) (kept-all l few)
       (defective d r (steps_used_up doc made few some is limit) of)
 
   -- and so is what a line comes to
-  pub comes-kept : (n : ℕ) (l : List ℕ) (x : LineOutcome) → ComesTo options q n (kept_of l) x
-      → ComesTo options q n l x
-  comes-kept n l x (blank few is) = subst (λ t. ComesTo options q n t x) (kept-all l few) (blank few is)
+  pub comes-kept : (n : ℕ) (l : List ℕ) (x : LineOutcome) → ComesTo options task n (kept_of l) x
+      → ComesTo options task n l x
+  comes-kept n l x (blank few is) = subst (λ t. ComesTo options task n t x) (kept-all l few) (blank few is)
   comes-kept n l x (document d few some is) =
-      subst (λ t. ComesTo options q n t x) (kept-all l few) (document d few some is)
+      subst (λ t. ComesTo options task n t x) (kept-all l few) (document d few some is)
   comes-kept n l x (defective d r has of) = refused-kept n l d r has of
 
   -- a line that is not refused is not too large
-  few-one : (n : ℕ) (l : List ℕ) (x : LineOutcome) → ComesTo options q n l x → is_refused x ≡ false
+  few-one : (n : ℕ) (l : List ℕ) (x : LineOutcome) → ComesTo options task n l x → is_refused x ≡ false
       → length l ≤ document_limit
   few-one n l x (blank few is) unrefused = few
   few-one n l x (document d few some is) unrefused = few
@@ -79,7 +79,7 @@ module _ (options : Options) (q : QueryTree) where
 
   -- and so the last one of lines that are not refused is not
   pub few-last : (n : ℕ) (ls : List (List ℕ)) (xs : List LineOutcome) (init : List (List ℕ))
-      (last : List ℕ) → ComeTo options q n ls xs → ls ≡ init ++ last ∷ [] → some_refused xs ≡ false
+      (last : List ℕ) → ComeTo options task n ls xs → ls ≡ init ++ last ∷ [] → some_refused xs ≡ false
       → length last ≤ document_limit
   few-last n ls xs [] last (none m) is unrefused = cc
   few-last n ls xs (l ∷ init) last (none m) is unrefused = cc

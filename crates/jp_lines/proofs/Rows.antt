@@ -5,15 +5,14 @@ use Rattle.jp_check.specs.declared.profile.Profile.TheVariants.{Standard, Extend
 use Rattle.jp_command.specs.CommandLine.{query_app}
 use Rattle.jp_command.specs.declared.lines.Form.TheVariants.{Values, Both}
 use Rattle.jp_lines.specs.CommandLine.{asked, jp_lines, lines_app}
+use Rattle.jp_lines.specs.Request.{SelectBy}
 use Rattle.jp_lines.specs.declared.options.Options.{Options}
-use Rattle.jp_lines.specs.declared.options.Wanted.{Wanted}
 use Rattle.jp_lines.specs.declared.options.Wanted.TheVariants.{Nodes, Count}
 
 -- what no flag asks for
-abbrev plain : Wanted → Options
-plain wanted =
+abbrev plain : Options
+plain =
     record {
-      wanted = wanted;
       numbered = false;
       keep_going = false;
       line_buffered = false;
@@ -22,7 +21,7 @@ plain wanted =
     }
 
 values : asked (codes "jp-lines" ∷ codes "eval" ∷ codes "$" ∷ [])
-    ≡ Some (plain (Nodes Values), codes "$", Standard)
+    ≡ Some (plain, SelectBy (Nodes Values) (codes "$"), Standard)
 unfolding clap_on_literals jp_lines lines_app query_app
 values = refl
 
@@ -30,8 +29,8 @@ number_and_buffer :
     asked (codes "jp-lines" ∷ codes "both" ∷ codes "--number" ∷ codes "$"
     ∷ codes "--line-buffered" ∷ [])
     ≡ Some (
-      record (plain (Nodes Both)) { numbered = true; line_buffered = true },
-      codes "$",
+      record plain { numbered = true; line_buffered = true },
+      SelectBy (Nodes Both) (codes "$"),
       Standard,
     )
 unfolding clap_on_literals jp_lines lines_app query_app
@@ -40,12 +39,12 @@ number_and_buffer = refl
 going_and_extended :
     asked (codes "jp-lines" ∷ codes "count" ∷ codes "--keep-going" ∷ codes "--extended"
     ∷ codes "$" ∷ [])
-    ≡ Some (record (plain Count) { keep_going = true }, codes "$", Extended)
+    ≡ Some (record plain { keep_going = true }, SelectBy Count (codes "$"), Extended)
 unfolding clap_on_literals jp_lines lines_app query_app
 going_and_extended = refl
 
 explaining : asked (codes "jp-lines" ∷ codes "eval" ∷ codes "$" ∷ codes "--explain" ∷ [])
-    ≡ Some (record (plain (Nodes Values)) { explaining = true }, codes "$", Standard)
+    ≡ Some (record plain { explaining = true }, SelectBy (Nodes Values) (codes "$"), Standard)
 unfolding clap_on_literals jp_lines lines_app query_app
 explaining = refl
 
@@ -65,13 +64,13 @@ subcommand_of_another_program = refl
 
 limit :
     asked (codes "jp-lines" ∷ codes "eval" ∷ codes "--limit" ∷ codes "10000" ∷ codes "$" ∷ [])
-    ≡ Some (record (plain (Nodes Values)) { limit = Some 10000 }, codes "$", Standard)
+    ≡ Some (record plain { limit = Some 10000 }, SelectBy (Nodes Values) (codes "$"), Standard)
 unfolding clap_on_literals jp_lines lines_app query_app
 limit = refl
 
 greatest_limit :
     asked (codes "jp-lines" ∷ codes "count" ∷ codes "$" ∷ codes "--limit=18446744073709551615" ∷ [])
-    ≡ Some (record (plain Count) { limit = Some 18446744073709551615 }, codes "$", Standard)
+    ≡ Some (record plain { limit = Some 18446744073709551615 }, SelectBy Count (codes "$"), Standard)
 unfolding clap_on_literals jp_lines lines_app query_app
 greatest_limit = refl
 

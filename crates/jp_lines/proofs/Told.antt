@@ -9,6 +9,7 @@ use Rattle.jp_query.specs.declared.refusal.Refusal.{Refusal}
 use Rattle.jp_lines.specs.Private.Telling.{TellsRun, line_alone, with_explanation}
 use Rattle.jp_lines.specs.Program.{RunEnds, RunsProgram, TellsRefusal, explained, status_of_stop}
 use Rattle.jp_lines.specs.Program.{TellsStop, stopped}
+use Rattle.jp_lines.specs.Request.{query_text}
 use Rattle.jp_lines.specs.declared.stop.Stop.{Stop}
 use Rattle.jp_lines.specs.declared.stop.Stop.TheVariants.{Run}
 
@@ -38,9 +39,9 @@ module _ {R W E : Type 0} (remaining : R → Option (List ℕ)) (has_failed : R 
       words i j o p u v status
 
   pub says-stop : (stop : Stop) (run : Ended stop) → status ≡ status_of_stop stop
-      → TellsRun reports reports_failed run.profile run.query stop between v → Says
+      → TellsRun reports reports_failed run.profile (query_text run.request) stop between v → Says
   says-stop stop run is (line_alone told) = stopped stop between is run told
   says-stop stop run is (with_explanation r same told) =
       let P : Stop → Type 0 = λ s. (ended : Ended s) → status ≡ status_of_stop s
-      → TellsRefusal reports reports_failed ended.profile ended.query r between v → Says in
+      → TellsRefusal reports reports_failed ended.profile (query_text ended.request) r between v → Says in
       subst P (sym same) (λ ended is told. explained r between is ended told) run is told

@@ -1,5 +1,6 @@
 -- What the words of a command line ask for: the command line as clap reads it, and what it finds in
--- the words: how to go over the lines, the query and the profile. `Program` cites it.
+-- the words: how to go over the lines, what is asked of each document, and the profile. `Program`
+-- cites it.
 use Rattle.std.specs.Prelude.{ℕ, true, List, Option, Some, None, codes, if◌then◌else◌}
 use Rattle.std.specs.Prelude.{option_and_then, option_map}
 use Rattle.std.specs.Str.{bytes_eq}
@@ -14,6 +15,7 @@ use Rattle.clap.specs.Walk.{is_empty}
 use Rattle.jp_check.specs.declared.profile.Profile.{Profile}
 use Rattle.jp_command.specs.CommandLine.{is_set, profile_asked, query_app, with_flag}
 use Rattle.jp_command.specs.declared.lines.Form.TheVariants.{Values, Paths, Both}
+use Rattle.jp_lines.specs.Request.{Request, SelectBy}
 use Rattle.jp_lines.specs.declared.options.Options.{Options}
 use Rattle.jp_lines.specs.declared.options.Wanted.{Wanted}
 use Rattle.jp_lines.specs.declared.options.Wanted.TheVariants.{Nodes, Count}
@@ -63,10 +65,9 @@ number_in text = if is_unsigned_in 0 greatest text
 abbrev pub limit_asked : List Row → Option ℕ
 limit_asked rows = option_and_then number_in (one_of (codes "limit") rows)
 
--- the same with what the flags and the option ask for
-abbrev pub options_asked : Wanted → List Row → Options
-options_asked wanted rows = record {
-  wanted = wanted;
+-- what the flags and the option ask for
+abbrev pub options_asked : List Row → Options
+options_asked rows = record {
   numbered = is_set (codes "number") rows;
   keep_going = is_set (codes "keep-going") rows;
   line_buffered = is_set (codes "line-buffered") rows;
@@ -74,14 +75,18 @@ options_asked wanted rows = record {
   limit = limit_asked rows;
 }
 
--- the options, the query and the profile of the subcommand that the words name
-abbrev pub asked_by : Text × List Row → Option (Options × Text × Profile)
-asked_by entered = option_and_then
-    (λ wanted. option_map
-    (λ query. (options_asked wanted entered.1, query, profile_asked entered.1))
-    (first_of (codes "QUERY") entered.1)) (wanted_called entered.0)
+-- what the subcommand of that name asks for
+abbrev pub request_by : Text → List Row → Option Request
+request_by name rows = option_and_then
+    (λ wanted. option_map (SelectBy wanted) (first_of (codes "QUERY") rows)) (wanted_called name)
+
+-- the options, the request and the profile of the subcommand that the words name
+abbrev pub asked_by : Text × List Row → Option (Options × Request × Profile)
+asked_by entered = option_map
+    (λ request. (options_asked entered.1, request, profile_asked entered.1))
+    (request_by entered.0 entered.1)
 
 -- what the words ask for, the program's name among them: nothing where clap finds a fault in them
-abbrev pub asked : List Text → Option (Options × Text × Profile)
+abbrev pub asked : List Text → Option (Options × Request × Profile)
 asked words = if is_empty (fault_of jp_lines words)
     then option_and_then asked_by (subcommand_of jp_lines words) else None

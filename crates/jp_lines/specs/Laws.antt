@@ -6,6 +6,7 @@ use Rattle.jp_check.specs.declared.profile.Profile.{Profile}
 use Rattle.jp_command.specs.Run.{RunsEval}
 use Rattle.jp_command.specs.declared.lines.Form.{Form}
 use Rattle.jp_lines.specs.Lines.{is_blank_line, lines_of_input, newline}
+use Rattle.jp_lines.specs.Request.{SelectBy}
 use Rattle.jp_lines.specs.Run.{RunsLines}
 use Rattle.jp_lines.specs.declared.options.Options.{Options}
 use Rattle.jp_lines.specs.declared.options.Wanted.TheVariants.{Nodes}
@@ -23,9 +24,9 @@ module _ (profile : Profile) {R W E : Type 0} (remaining : R → Option (List �
   -- no numbers says what a run over the document says.
   abbrev pub OneLineIsADocument : Type 0
   OneLineIsADocument = (form : Form) (options : Options) (text bytes : List ℕ) (i j : R) (o p : W)
-      (u v : E) → options.wanted ≡ Nodes form → options.numbered ≡ false
+      (u v : E) → options.numbered ≡ false
       → remaining i ≡ Some bytes → lines_of_input bytes ≡ bytes ∷ [] → is_blank_line bytes ≡ false
       → RunsLines profile options remaining has_failed read_gives contents writes_failed reports
-      reports_failed text i j o p u v (Ok false)
+      reports_failed (SelectBy (Nodes form) text) i j o p u v (Ok false)
       → RunsEval profile remaining has_failed read_gives contents writes_failed form text i j o p
       (Ok (tt {0}))

@@ -1,4 +1,7 @@
 pub mod Lines
+pub mod Task
+pub mod Request
+pub mod Views
 pub mod Outcome
 pub mod Reads
 pub mod Told

@@ -9,19 +9,15 @@ use Rattle.jp_document.specs.Value.{Value}
 use Rattle.jp_document.specs.declared.fault.DocumentFault.{DocumentFault}
 use Rattle.jp_document.specs.declared.fault.DocumentFault.TheVariants.{NoMemory}
 use Rattle.jp_command.specs.Limits.{document_limit}
-use Rattle.jp_command.specs.Lines.{output_behind}
-use Rattle.jp_evaluate.specs.Nodelist.{nodelist}
 use Rattle.jp_json.specs.Misreading.{IsMisreading}
 use Rattle.jp_json.specs.Told.{misreading_text}
 use Rattle.jp_json.specs.declared.misreading.Misreading.{Misreading}
-use Rattle.jp_tree.specs.Tree.{QueryTree}
 use Rattle.jp_lines.specs.Lines.{is_blank_line}
+use Rattle.jp_lines.specs.Task.{Task, written_for}
 use Rattle.jp_lines.specs.declared.defect.Defect.{Defect}
 use Rattle.jp_lines.specs.declared.defect.Defect.TheVariants.{Document, TooLarge, StepsUsedUp}
 use Rattle.jp_lines.specs.declared.defect.RefusedLine.{RefusedLine}
 use Rattle.jp_lines.specs.declared.options.Options.{Options}
-use Rattle.jp_lines.specs.declared.options.Wanted.{Wanted}
-use Rattle.jp_lines.specs.declared.options.Wanted.TheVariants.{Nodes, Count}
 
 -- ---- texts
 
@@ -38,11 +34,6 @@ refused_text r = codes "line " ++ decimal r.number ++ codes ": " ++ defect_text 
 -- the number of an input's line and a tab, where numbers are asked for
 abbrev pub lead_of : Bool → ℕ → List ℕ
 lead_of numbered number = if numbered then decimal number ++ codes "\t" else []
-
--- what is written of a document, behind such a lead: the lines of its nodes, or how many they are
-abbrev pub wanted_output : Wanted → List ℕ → QueryTree → Value → List ℕ
-wanted_output (Nodes form) lead q d = output_behind lead form q d
-wanted_output Count lead q d = lead ++ decimal (length (nodelist q d)) ++ codes "\n"
 
 -- ---- outcomes
 
@@ -105,8 +96,8 @@ pub data IsDefective (options : Options) (line : List ℕ) : Defect → Type 0 w
       → is_blank_line line ≡ false → IsDocument line d → options.limit ≡ Some made
       → IsDefective options line (StepsUsedUp made)
 
--- what is asked of each document, and the query
-module _ (options : Options) (q : QueryTree) where
+-- how a run goes over its lines, and what it does with each document
+module _ (options : Options) (task : Task) where
   -- the line of that number comes to this
   pub data ComesTo (number : ℕ) (line : List ℕ) : LineOutcome → Type 0 where
     blank : length line ≤ document_limit → is_blank_line line ≡ true
@@ -114,7 +105,7 @@ module _ (options : Options) (q : QueryTree) where
     document : (d : Value) → length line ≤ document_limit → is_blank_line line ≡ false
         → IsDocument line d
         → ComesTo number line
-        (Answered (wanted_output options.wanted (lead_of options.numbered number) q d))
+        (Answered (written_for task (lead_of options.numbered number) line d))
     defective : (defect : Defect) (r : RefusedLine) → IsDefective options line defect
         → IsRefusal options number line defect r → ComesTo number line (Refused r)
 

@@ -10,6 +10,7 @@ use Rattle.jp_command.specs.declared.fault.Fault.TheVariants.{NoMemory, Query, W
 use Rattle.jp_query.specs.declared.refusal.Refusal.{Refusal}
 use Rattle.jp_lines.specs.CommandLine.{asked}
 use Rattle.jp_lines.specs.Outcome.{Refused, refused_text, told_of}
+use Rattle.jp_lines.specs.Request.{Request, query_text}
 use Rattle.jp_lines.specs.Run.{FailsAtRead, RunsLines, StopsAtLine}
 use Rattle.jp_lines.specs.declared.options.Options.{Options}
 use Rattle.jp_lines.specs.declared.stop.Stop.{Stop}
@@ -47,33 +48,33 @@ module _ {R W E : Type 0} (remaining : R → Option (List ℕ)) (has_failed : R 
     (read_gives : R → Option (List ℕ) → R → Type 0) (contents : W → Option (List ℕ))
     (writes_failed : W → Bool) (reports : E → Option (List ℕ)) (reports_failed : E → Bool) where
   -- a read failed, the lines before it were answered, and then the flush of what was written failed
-  pub record FailsToFlush (options : Options) (profile : Profile) (text : List ℕ) (i j : R) (o p : W)
+  pub record FailsToFlush (options : Options) (profile : Profile) (request : Request) (i j : R) (o p : W)
       (u v : E) : Type 0 where
     pub between : W
     pub reads : FailsAtRead profile options remaining has_failed read_gives contents writes_failed
-        reports reports_failed text i j o between u v
+        reports reports_failed request i j o between u v
     pub kept : Keeps (contents between) (contents p)
     pub fails : writes_failed p ≡ true
 
   -- what a run says that flushes the output in the end
-  abbrev pub RunsAndFlushes : Options → Profile → List ℕ → R → R → W → W → E → E → Result Bool Stop
+  abbrev pub RunsAndFlushes : Options → Profile → Request → R → R → W → W → E → E → Result Bool Stop
       → Type 0
-  RunsAndFlushes options profile text i j o p u v (Err (Run Write)) =
+  RunsAndFlushes options profile request i j o p u v (Err (Run Write)) =
       StopsAtLine profile options remaining has_failed read_gives contents writes_failed reports
-      reports_failed text i j o p u v (Run Write)
-      ⊎ FailsToFlush options profile text i j o p u v
-  RunsAndFlushes options profile text i j o p u v answer =
+      reports_failed request i j o p u v (Run Write)
+      ⊎ FailsToFlush options profile request i j o p u v
+  RunsAndFlushes options profile request i j o p u v answer =
       RunsLines profile options remaining has_failed read_gives contents writes_failed reports
-      reports_failed text i j o p u v answer
+      reports_failed request i j o p u v answer
 
   -- the run that the words ask for ended with this answer
   pub record RunEnds (words : List (List ℕ)) (i j : R) (o p : W) (u v : E)
       (answer : Result Bool Stop) : Type 0 where
     pub options : Options
-    pub query : List ℕ
+    pub request : Request
     pub profile : Profile
-    pub asks : asked words ≡ Some (options, query, profile)
-    pub runs : RunsAndFlushes options profile query i j o p u v answer
+    pub asks : asked words ≡ Some (options, request, profile)
+    pub runs : RunsAndFlushes options profile request i j o p u v answer
 
   -- What is said with a status. Behind the line of a refused query stands an explanation, unless
   -- memory ran out for it. Where the words are not ones that the command line takes, clap's text is
@@ -89,7 +90,7 @@ module _ {R W E : Type 0} (remaining : R → Option (List ℕ)) (has_failed : R 
         → RunsProgram words i j o p u v status
     explained : (r : Refusal) (between : E) → status ≡ status_of_stop (Run (Query r))
         → (run : RunEnds words i j o p u between (Err (Run (Query r))))
-        → TellsRefusal reports reports_failed run.profile run.query r between v
+        → TellsRefusal reports reports_failed run.profile (query_text run.request) r between v
         → RunsProgram words i j o p u v status
     usage : status ≡ 2 → asked words ≡ None → j ≡ i → p ≡ o
         → AppendsSome (reports u) (reports v) → RunsProgram words i j o p u v status

@@ -1,17 +1,17 @@
--- What a run of a query over the lines of an input says with its answer.
+-- What a run over the lines of an input says with its answer.
 use Rattle.std.specs.Prelude.{◌≡◌, ◌≢◌, ◌⊎◌, ℕ, ◌+◌, ◌≤◌, Bool, true, false, List, [], ◌∷◌, ◌++◌}
 use Rattle.std.specs.Prelude.{length, Option, Result, Ok, Err}
 use Rattle.std.specs.Io.KnownBytes.{Keeps}
 use Rattle.jp_check.specs.declared.profile.Profile.{Profile}
-use Rattle.jp_tree.specs.Tree.{QueryTree}
 use Rattle.jp_command.specs.Limits.{document_limit}
 use Rattle.jp_command.specs.Output.{AppendsPrefix, WritesAll}
-use Rattle.jp_command.specs.Run.{IsAsked, RefusesQuery}
 use Rattle.jp_command.specs.declared.fault.Fault.TheVariants.{Query, NoMemory, Read, Write}
 use Rattle.jp_lines.specs.Lines.{lines_of_input}
 use Rattle.jp_lines.specs.Outcome.{LineOutcome, Answered, Refused, ComesTo, ComeTo, some_refused}
 use Rattle.jp_lines.specs.Outcome.{told_of_all, written_of_all}
 use Rattle.jp_lines.specs.Reads.{HasRead, ReadsToEnd, ReadsToFailure}
+use Rattle.jp_lines.specs.Request.{IsTaskOf, RefusesRequest, Request}
+use Rattle.jp_lines.specs.Task.{Task}
 use Rattle.jp_lines.specs.Told.{Tells}
 use Rattle.jp_lines.specs.declared.defect.Defect.TheVariants.{TooLarge}
 use Rattle.jp_lines.specs.declared.defect.RefusedLine.{RefusedLine}
@@ -25,9 +25,9 @@ module _ (options : Options) {W E : Type 0} (contents : W → Option (List ℕ))
   -- The lines, numbered from there on, came to these outcomes: what is to be written of them is
   -- written, what is to be told is told and nothing where no line is refused, and a line is refused
   -- only where the run is to go on.
-  pub record Goes (q : QueryTree) (number : ℕ) (lines : List (List ℕ)) (outcomes : List LineOutcome)
+  pub record Goes (task : Task) (number : ℕ) (lines : List (List ℕ)) (outcomes : List LineOutcome)
       (o p : W) (u v : E) : Type 0 where
-    pub come : ComeTo options q number lines outcomes
+    pub come : ComeTo options task number lines outcomes
     pub writes : WritesAll contents writes_failed o p (written_of_all outcomes)
     pub tells : Tells reports reports_failed u v (told_of_all outcomes)
     pub allowed : some_refused outcomes ≡ true → options.keep_going ≡ true
@@ -35,20 +35,20 @@ module _ (options : Options) {W E : Type 0} (contents : W → Option (List ℕ))
 
   -- The first of all these lines, which has that number, is a whole one and answered, and of what is
   -- to be written of it a prefix is.
-  pub record WritesInPart (q : QueryTree) (number : ℕ) (all : List (List ℕ)) (at_end : Type 0)
+  pub record WritesInPart (task : Task) (number : ℕ) (all : List (List ℕ)) (at_end : Type 0)
       (o p : W) : Type 0 where
     pub line : List ℕ
     pub rest : List (List ℕ)
     pub first : all ≡ line ∷ rest
     pub complete : (rest ≢ []) ⊎ at_end
     pub output : List ℕ
-    pub comes : ComesTo options q number line (Answered output)
+    pub comes : ComesTo options task number line (Answered output)
     pub writes : AppendsPrefix (contents o) (contents p) output
 
   -- Among all these lines, some at the front, which are whole, came to outcomes. Behind them nothing
   -- is told, and nothing is written, or the next line in part. Those that had ended before the last
   -- read, so many as `ended`, are at the front.
-  pub record GoesInPart (q : QueryTree) (number : ℕ) (all : List (List ℕ)) (at_end : Type 0) (ended : ℕ)
+  pub record GoesInPart (task : Task) (number : ℕ) (all : List (List ℕ)) (at_end : Type 0) (ended : ℕ)
       (o p : W) (u v : E) : Type 0 where
     pub lines : List (List ℕ)
     pub rest : List (List ℕ)
@@ -56,24 +56,24 @@ module _ (options : Options) {W E : Type 0} (contents : W → Option (List ℕ))
     pub complete : (rest ≢ []) ⊎ at_end
     pub outcomes : List LineOutcome
     pub between : W
-    pub goes : Goes q number lines outcomes o between u v
+    pub goes : Goes task number lines outcomes o between u v
     pub answered : ended ≤ length lines
     pub next : Keeps (contents between) (contents p)
-        ⊎ WritesInPart q (number + length lines) rest at_end between p
+        ⊎ WritesInPart task (number + length lines) rest at_end between p
 
   -- Among all these lines, the first that is no document is refused with r, and the ones before it
   -- are answered. It had not ended before the last read. Where it is the last line that came, it is
   -- the whole line, or has more bytes than a document may have.
-  pub record GoesToRefusal (q : QueryTree) (number : ℕ) (all : List (List ℕ)) (at_end : Type 0) (ended : ℕ)
+  pub record GoesToRefusal (task : Task) (number : ℕ) (all : List (List ℕ)) (at_end : Type 0) (ended : ℕ)
       (r : RefusedLine) (o p : W) (u v : E) : Type 0 where
     pub lines : List (List ℕ)
     pub line : List ℕ
     pub rest : List (List ℕ)
     pub split : all ≡ lines ++ line ∷ rest
     pub outcomes : List LineOutcome
-    pub goes : Goes q number lines outcomes o p u v
+    pub goes : Goes task number lines outcomes o p u v
     pub unrefused : some_refused outcomes ≡ false
-    pub comes : ComesTo options q (number + length lines) line (Refused r)
+    pub comes : ComesTo options task (number + length lines) line (Refused r)
     pub complete : (rest ≢ []) ⊎ at_end ⊎ (r.defect ≡ TooLarge)
     pub answered : ended ≤ length lines
     pub stops : options.keep_going ≡ false
@@ -81,37 +81,37 @@ module _ (options : Options) {W E : Type 0} (contents : W → Option (List ℕ))
   -- Why the lines, all of these, numbered from there on, were not gone through to the end: one of
   -- them is refused, memory ran out, or a write failed. at_end says that the last of them is whole,
   -- and `ended` how many had ended before the last read.
-  abbrev pub StopsAmong : QueryTree → ℕ → List (List ℕ) → Type 0 → ℕ → W → W → E → E → Stop → Type 0
-  StopsAmong q number all at_end ended o p u v (Line r) =
-      GoesToRefusal q number all at_end ended r o p u v
-  StopsAmong q number all at_end ended o p u v (Run NoMemory) =
-      GoesInPart q number all at_end ended o p u v × (writes_failed p ≡ writes_failed o)
-  StopsAmong q number all at_end ended o p u v (Run Write) =
-      GoesInPart q number all at_end ended o p u v × (writes_failed p ≡ true)
-  StopsAmong q number all at_end ended o p u v (Run _) = ⊥
+  abbrev pub StopsAmong : Task → ℕ → List (List ℕ) → Type 0 → ℕ → W → W → E → E → Stop → Type 0
+  StopsAmong task number all at_end ended o p u v (Line r) =
+      GoesToRefusal task number all at_end ended r o p u v
+  StopsAmong task number all at_end ended o p u v (Run NoMemory) =
+      GoesInPart task number all at_end ended o p u v × (writes_failed p ≡ writes_failed o)
+  StopsAmong task number all at_end ended o p u v (Run Write) =
+      GoesInPart task number all at_end ended o p u v × (writes_failed p ≡ true)
+  StopsAmong task number all at_end ended o p u v (Run _) = ⊥
 
 -- i and j are the input before and after
 module _ (profile : Profile) (options : Options) {R W E : Type 0}
     (remaining : R → Option (List ℕ)) (has_failed : R → Bool)
     (read_gives : R → Option (List ℕ) → R → Type 0) (contents : W → Option (List ℕ))
     (writes_failed : W → Bool) (reports : E → Option (List ℕ)) (reports_failed : E → Bool) where
-  -- the query is asked, the input was read to its end, and all its lines came to outcomes, of which
+  -- the task is asked, the input was read to its end, and all its lines came to outcomes, of which
   -- some are refused or none
-  pub record GoesToEnd (text : List ℕ) (i j : R) (o p : W) (u v : E) (refused : Bool) : Type 0 where
-    pub q : QueryTree
-    pub asked : IsAsked profile text q
+  pub record GoesToEnd (request : Request) (i j : R) (o p : W) (u v : E) (refused : Bool) : Type 0 where
+    pub task : Task
+    pub asked : IsTaskOf profile request task
     pub bytes : List ℕ
     pub reads : ReadsToEnd remaining has_failed read_gives i j bytes
     pub outcomes : List LineOutcome
-    pub goes : Goes options contents writes_failed reports reports_failed q 1
+    pub goes : Goes options contents writes_failed reports reports_failed task 1
         (lines_of_input bytes) outcomes o p u v
     pub is : refused ≡ some_refused outcomes
 
-  -- the query is asked, a read failed, and what came before it but for its last line, which had not
+  -- the task is asked, a read failed, and what came before it but for its last line, which had not
   -- ended nor grown too large for a run that does not go on, came to outcomes
-  pub record FailsAtRead (text : List ℕ) (i j : R) (o p : W) (u v : E) : Type 0 where
-    pub q : QueryTree
-    pub asked : IsAsked profile text q
+  pub record FailsAtRead (request : Request) (i j : R) (o p : W) (u v : E) : Type 0 where
+    pub task : Task
+    pub asked : IsTaskOf profile request task
     pub bytes : List ℕ
     pub reads : ReadsToFailure remaining has_failed read_gives i j bytes
     pub lines : List (List ℕ)
@@ -119,14 +119,14 @@ module _ (profile : Profile) (options : Options) {R W E : Type 0}
     pub split : lines_of_input bytes ≡ lines ++ last ∷ []
     pub few : options.keep_going ≡ false → length last ≤ document_limit
     pub outcomes : List LineOutcome
-    pub goes : Goes options contents writes_failed reports reports_failed q 1 lines outcomes o p u v
+    pub goes : Goes options contents writes_failed reports reports_failed task 1 lines outcomes o p u v
 
-  -- The query is asked, and among the lines of what was read the run stopped, at none of those that
+  -- The task is asked, and among the lines of what was read the run stopped, at none of those that
   -- had ended before the last read. The line that had begun then had not grown too large for a run
   -- that does not go on. The last line is whole if the input had come to its end.
-  pub record StopsAtLine (text : List ℕ) (i j : R) (o p : W) (u v : E) (stop : Stop) : Type 0 where
-    pub q : QueryTree
-    pub asked : IsAsked profile text q
+  pub record StopsAtLine (request : Request) (i j : R) (o p : W) (u v : E) (stop : Stop) : Type 0 where
+    pub task : Task
+    pub asked : IsTaskOf profile request task
     pub before : List ℕ
     pub rest : List ℕ
     pub at_end : Bool
@@ -135,17 +135,17 @@ module _ (profile : Profile) (options : Options) {R W E : Type 0}
     pub begun : List ℕ
     pub split : lines_of_input before ≡ ended ++ begun ∷ []
     pub few : options.keep_going ≡ false → length begun ≤ document_limit
-    pub stops : StopsAmong options contents writes_failed reports reports_failed q 1
+    pub stops : StopsAmong options contents writes_failed reports reports_failed task 1
         (lines_of_input (before ++ rest)) (at_end ≡ true) (length ended) o p u v stop
 
   -- what a run says with its answer
-  abbrev pub RunsLines : List ℕ → R → R → W → W → E → E → Result Bool Stop → Type 0
-  RunsLines text i j o p u v (Ok refused) = GoesToEnd text i j o p u v refused
-  RunsLines text i j o p u v (Err (Line r)) = StopsAtLine text i j o p u v (Line r)
-  RunsLines text i j o p u v (Err (Run (Query r))) =
-      RefusesQuery profile text r × (j ≡ i) × (p ≡ o) × (v ≡ u)
-  RunsLines text i j o p u v (Err (Run NoMemory)) =
-      ((j ≡ i) × (p ≡ o) × (v ≡ u)) ⊎ StopsAtLine text i j o p u v (Run NoMemory)
-  RunsLines text i j o p u v (Err (Run Read)) = FailsAtRead text i j o p u v
-  RunsLines text i j o p u v (Err (Run Write)) = StopsAtLine text i j o p u v (Run Write)
-  RunsLines text i j o p u v (Err (Run _)) = ⊥
+  abbrev pub RunsLines : Request → R → R → W → W → E → E → Result Bool Stop → Type 0
+  RunsLines request i j o p u v (Ok refused) = GoesToEnd request i j o p u v refused
+  RunsLines request i j o p u v (Err (Line r)) = StopsAtLine request i j o p u v (Line r)
+  RunsLines request i j o p u v (Err (Run (Query r))) =
+      RefusesRequest profile request r × (j ≡ i) × (p ≡ o) × (v ≡ u)
+  RunsLines request i j o p u v (Err (Run NoMemory)) =
+      ((j ≡ i) × (p ≡ o) × (v ≡ u)) ⊎ StopsAtLine request i j o p u v (Run NoMemory)
+  RunsLines request i j o p u v (Err (Run Read)) = FailsAtRead request i j o p u v
+  RunsLines request i j o p u v (Err (Run Write)) = StopsAtLine request i j o p u v (Run Write)
+  RunsLines request i j o p u v (Err (Run _)) = ⊥

@@ -8,11 +8,12 @@ ghost use Rattle.jp_command.specs.Limits.{document_limit};
 ghost use Rattle.jp_lines.specs.Lines.{is_blank_line};
 ghost use Rattle.jp_lines.specs.Private.Answers.{AnswersOrRefuses, HasNamedLocation};
 ghost use Rattle.jp_lines.specs.Private.Answers.{StopsAnswering, defect_of};
+ghost use Rattle.jp_lines.specs.Views.{selection_task, task_of};
 
 use crate::defect::Defect;
 use crate::options::Options;
-use crate::wanted::{write_wanted, write_wanted_at};
-use jp_check::Checked;
+use crate::task::{Selection, Task};
+use crate::wanted::{write_for, write_wanted_at};
 use jp_command::{DOCUMENT_LIMIT, Fault, Spare, Writer};
 use jp_document::{DocumentFault, Step};
 use jp_flat::{Room, found_value};
@@ -24,9 +25,7 @@ use std::mem;
 #[derive(Clone, Copy)]
 pub(crate) struct Asked<'q> {
     pub(crate) alloc: Global,
-    pub(crate) query: &'q Checked,
-    /// The location that the query names; None where it names none.
-    pub(crate) location: Option<&'q [Step<'q>]>,
+    pub(crate) task: Task<'q>,
     pub(crate) options: Options,
 }
 
@@ -67,11 +66,11 @@ pub(crate) fn answer<W: Writer>(
     memory: &mut Memory,
     output: &mut W,
 ) -> Result<Option<Defect>, Fault>
-    requires named { HasNamedLocation asked }
+    requires named { HasNamedLocation asked.task }
     ensures answers { IfOk result (AnswersOrRefuses W.contents W.has_failed asked.entry.options
-        (query_of asked.entry.query.now.query) number line.now output.old output.new) }
+        (task_of asked.entry.task) number line.now output.old output.new) }
     ensures stopped { IfErr result (StopsAnswering W.contents W.has_failed asked.entry.options
-        (query_of asked.entry.query.now.query) number line.now output.old output.new) }
+        (task_of asked.entry.task) number line.now output.old output.new) }
 {
     if line.len() > DOCUMENT_LIMIT {
         return Ok(Some(Defect::TooLarge));
@@ -79,12 +78,14 @@ pub(crate) fn answer<W: Writer>(
     if is_blank_line(line) {
         return Ok(None);
     }
-    match asked.location {
-        // The root is read as a whole, into memory that is kept.
-        Some(location) if !location.is_empty() => {
-            answer_at(asked, number, location, line, memory, output)
-        }
-        _ => answer_whole(asked, number, line, memory, output),
+    match asked.task {
+        Task::Select(selection) => match selection.location {
+            // The root is read as a whole, into memory that is kept.
+            Some(location) if !location.is_empty() => {
+                answer_at(asked, selection, number, location, line, memory, output)
+            }
+            _ => answer_whole(asked, number, line, memory, output),
+        },
     }
 }
 
@@ -92,25 +93,34 @@ pub(crate) fn answer<W: Writer>(
 /// found while the document is read.
 fn answer_at<W: Writer>(
     asked: Asked<'_>,
+    selection: Selection<'_>,
     number: u64,
     location: &[Step<'_>],
     line: &[u8],
     memory: &mut Memory,
     output: &mut W,
 ) -> Result<Option<Defect>, Fault>
-    requires named { NamesLocation (query_of asked.query.now.query)
+    requires named { NamesLocation (query_of selection.query.now.query)
         (map step_of location.now) }
     requires few { length line.now ≤ document_limit }
     requires some { is_blank_line line.now ≡ false }
     ensures answers { IfOk result (AnswersOrRefuses W.contents W.has_failed asked.entry.options
-        (query_of asked.entry.query.now.query) number line.now output.old output.new) }
+        (selection_task selection.entry) number line.now output.old output.new) }
     ensures stopped { IfErr result (StopsAnswering W.contents W.has_failed asked.entry.options
-        (query_of asked.entry.query.now.query) number line.now output.old output.new) }
+        (selection_task selection.entry) number line.now output.old output.new) }
 {
     match read_value_at(asked.alloc, line, location) {
         Ok(found) => {
             let value = found_value(&found);
-            write_wanted_at(asked, number, location, value, memory, output)?;
+            write_wanted_at(
+                asked,
+                selection.wanted,
+                number,
+                location,
+                value,
+                memory,
+                output,
+            )?;
             Ok(None)
         }
         Err(fault) => defect_of(fault),
@@ -128,14 +138,14 @@ fn answer_whole<W: Writer>(
     requires few { length line.now ≤ document_limit }
     requires some { is_blank_line line.now ≡ false }
     ensures answers { IfOk result (AnswersOrRefuses W.contents W.has_failed asked.entry.options
-        (query_of asked.entry.query.now.query) number line.now output.old output.new) }
+        (task_of asked.entry.task) number line.now output.old output.new) }
     ensures stopped { IfErr result (StopsAnswering W.contents W.has_failed asked.entry.options
-        (query_of asked.entry.query.now.query) number line.now output.old output.new) }
+        (task_of asked.entry.task) number line.now output.old output.new) }
 {
     let room = mem::replace(&mut memory.room, Room::new(asked.alloc));
     match read_into(asked.alloc, room, line) {
         Ok(flat) => {
-            let defect = write_wanted(asked, number, flat.value(), memory, output)?;
+            let defect = write_for(asked, number, line, flat.value(), memory, output)?;
             memory.room = flat.into_room();
             Ok(defect)
         }

@@ -2,15 +2,17 @@
 //!
 //! ```text
 //! let mut faults = Device::new(rt.stderr());
-//! let refused = run_lines(alloc, "$.user.id", Standard, options, &mut input, &mut output, &mut faults)?;
+//! let values = Wanted::Nodes(Form::Values);
+//! let refused =
+//!     run_lines(alloc, "$.user.id", Standard, values, options, &mut input, &mut output, &mut faults)?;
 //! ```
 //!
-//! `Options` say what is written of each document, whether lines are numbered, a run goes on after a
-//! line that is refused, the output is flushed after each, and a line that is no document is explained,
-//! and how many steps the evaluation over one document may make. `specs/Run.antt` has what
-//! `run_lines` says with each answer, by the outcomes of lines in `specs/Outcome.antt`;
-//! `specs/Lines.antt` says what the lines of an input are. `run_program` is the whole program
-//! `jp-lines` over its words; `specs/Program.antt` has what it says with each status.
+//! `Options` say whether lines are numbered, a run goes on after a line that is refused, the output is
+//! flushed after each, and a line that is no document is explained, and how many steps the evaluation
+//! over one document may make. `specs/Task.antt` says what is written of a document, `specs/Run.antt`
+//! what `run_lines` says with each answer, by the outcomes of lines in `specs/Outcome.antt`, and
+//! `specs/Lines.antt` what the lines of an input are. `run_program` is the whole program `jp-lines`
+//! over its words; `specs/Program.antt` has what it says with each status.
 #![tactic(auto)]
 
 mod answer;
@@ -23,6 +25,7 @@ mod passing;
 mod program;
 mod run;
 mod stop;
+mod task;
 mod telling;
 #[cfg(test)]
 mod tests;

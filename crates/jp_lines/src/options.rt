@@ -14,8 +14,6 @@ pub enum Wanted {
 /// How a run goes over the lines of its input.
 #[derive(Debug, Clone, Copy, PartialEq, Eq)]
 pub struct Options {
-    /// What is written of each document.
-    pub wanted: Wanted,
     /// Whether each line of output begins with the number of the input's line, from 1, and a tab.
     pub numbered: bool,
     /// Whether a run goes on after a line that is refused.

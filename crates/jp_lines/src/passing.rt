@@ -1,11 +1,11 @@
 //! Going over the bytes of an input, line by line.
 
 ghost use Rattle.std.specs.Prelude.{◌≡◌, ◌≤◌, ◌++◌, [], List, ℕ, IfErr, OnOk, false, length};
-ghost use Rattle.jp_tree.specs.Views.{query_of};
 ghost use Rattle.jp_command.specs.Limits.{document_limit};
 ghost use Rattle.jp_lines.specs.Private.Answers.{HasNamedLocation};
 ghost use Rattle.jp_lines.specs.Private.Passing.{EndsLine, Keeps, PassesOn, StopsPassing, kept_of};
 ghost use Rattle.jp_lines.specs.Private.Treating.{StopsEnding};
+ghost use Rattle.jp_lines.specs.Views.{task_of};
 
 use crate::answer::{Asked, Memory};
 use crate::count::number_after;
@@ -53,16 +53,16 @@ pub(crate) fn pass<W: Output, E: Writer>(
     output: &mut W,
     faults: &mut E,
 ) -> Result<(), Stop>
-    requires named { HasNamedLocation asked }
+    requires named { HasNamedLocation asked.task }
     ensures passes { OnOk result ((line : List ℕ) → Keeps progress.old line
         → PassesOn asked.entry.options W.contents W.has_failed E.contents E.has_failed
-        (query_of asked.entry.query.now.query) bytes.now progress.old progress.new line
+        (task_of asked.entry.task) bytes.now progress.old progress.new line
         output.old output.new faults.old faults.new) }
     ensures few { OnOk result (asked.entry.options.keep_going ≡ false
         → length progress.new.line.items ≤ document_limit) }
     ensures stopped { IfErr result (λ stop. (line : List ℕ) → Keeps progress.old line
         → StopsPassing asked.entry.options W.contents W.has_failed E.contents E.has_failed
-        (query_of asked.entry.query.now.query) bytes.now progress.old line
+        (task_of asked.entry.task) bytes.now progress.old line
         output.old output.new faults.old faults.new stop) }
 {
     let mut rest = bytes;
@@ -98,14 +98,14 @@ pub(crate) fn end_line<W: Output, E: Writer>(
     output: &mut W,
     faults: &mut E,
 ) -> Result<(), Stop>
-    requires named { HasNamedLocation asked }
+    requires named { HasNamedLocation asked.task }
     ensures ended { OnOk result ((line : List ℕ) → Keeps progress.old line
         → EndsLine asked.entry.options W.contents W.has_failed E.contents E.has_failed
-        (query_of asked.entry.query.now.query) progress.old progress.new line
+        (task_of asked.entry.task) progress.old progress.new line
         output.old output.new faults.old faults.new) }
     ensures stopped { IfErr result (λ stop. (line : List ℕ) → Keeps progress.old line
         → StopsEnding asked.entry.options W.contents W.has_failed E.contents E.has_failed
-        (query_of asked.entry.query.now.query) progress.old.number line
+        (task_of asked.entry.task) progress.old.number line
         output.old output.new faults.old faults.new stop) }
 {
     let refused = treat(

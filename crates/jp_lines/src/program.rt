@@ -5,11 +5,14 @@ ghost use Rattle.std.specs.Io.KnownBytes.{Keeps};
 ghost use Rattle.jp_command.specs.declared.fault.Fault.TheVariants.{Write};
 ghost use Rattle.jp_lines.specs.Private.Telling.{TellsRun};
 ghost use Rattle.jp_lines.specs.Program.{RunsAndFlushes, RunsProgram, TellsStop, status_of_stop};
+ghost use Rattle.jp_lines.specs.Request.{query_text};
+ghost use Rattle.jp_lines.specs.Views.{request_of};
 ghost use Rattle.jp_lines.specs.declared.stop.Stop.TheVariants.{Run};
 
 use crate::options::Options;
-use crate::run::run_query;
+use crate::run::run_selected;
 use crate::stop::Stop;
+use crate::task::Request;
 use crate::telling::tell;
 use crate::treating::flush;
 use crate::words::read_words;
@@ -42,13 +45,13 @@ pub fn run_program<R: Source, W: Output, E: Writer>(
         faults.old faults.new result }
 {
     match read_words(alloc, &words) {
-        Ok((options, query, profile)) => match run_and_flush(
-            alloc, query, profile, options, input, output, faults,
+        Ok((options, request, profile)) => match run_and_flush(
+            alloc, request, profile, options, input, output, faults,
         ) {
             Ok(false) => 0,
             Ok(true) => LINE_REFUSED,
             Err(stop) => {
-                tell_stop(alloc, &stop, query, profile, faults);
+                tell_stop(alloc, &stop, query_text(request), profile, faults);
                 status_of_stop(&stop)
             }
         },
@@ -56,10 +59,10 @@ pub fn run_program<R: Source, W: Output, E: Writer>(
     }
 }
 
-/// Runs a query over the lines. The output is flushed before the answer, unless a write has failed.
+/// Does what is asked with the lines. The output is flushed before the answer, unless a write has failed.
 fn run_and_flush<R: Source, W: Output, E: Writer>(
     alloc: Global,
-    query: &str,
+    request: Request<'_>,
     profile: Profile,
     options: Options,
     input: &mut R,
@@ -67,12 +70,25 @@ fn run_and_flush<R: Source, W: Output, E: Writer>(
     faults: &mut E,
 ) -> Result<bool, Stop>
     ensures { RunsAndFlushes R.remaining R.has_failed R.read_gives
-        W.contents W.has_failed E.contents E.has_failed options profile query.now
+        W.contents W.has_failed E.contents E.has_failed options profile (request_of request.entry)
         input.old input.new output.old output.new faults.old faults.new result }
 {
-    let query = read_within_limit(alloc, query, profile).map_err(Fault::from)?;
-    let ended = run_query(alloc, &query, options, input, output, faults);
-    flush_ended(ended, output)
+    match request {
+        Request::SelectBy(wanted, query) => {
+            let query = read_within_limit(alloc, query, profile).map_err(Fault::from)?;
+            let ended = run_selected(alloc, wanted, &query, options, input, output, faults);
+            flush_ended(ended, output)
+        }
+    }
+}
+
+/// The text of the query that is asked.
+fn query_text<'w>(request: Request<'w>) -> &'w str
+    ensures { result.now ≡ query_text (request_of request.entry) }
+{
+    match request {
+        Request::SelectBy(_, query) => query,
+    }
 }
 
 /// Flushes the output of a run that has ended, unless a write has failed. Answers how the run ended, or

@@ -1,18 +1,21 @@
-//! A run of a query over the lines of an input.
+//! A run over the lines of an input.
 
-ghost use Rattle.std.specs.Prelude.{◌≡◌, List, ℕ, IfOk, vec_len};
+ghost use Rattle.std.specs.Prelude.{◌≡◌, IfOk, vec_len};
 ghost use Rattle.jp_check.specs.declared.profile.Profile.{Profile};
 ghost use Rattle.jp_tree.specs.Views.{query_of};
 ghost use Rattle.jp_command.specs.Limits.{chunk_size};
-ghost use Rattle.jp_command.specs.Run.{IsAsked};
 ghost use Rattle.jp_lines.specs.Private.Answers.{HasNamedLocation};
 ghost use Rattle.jp_lines.specs.Private.Asking.{RunsAsked};
+ghost use Rattle.jp_lines.specs.Request.{IsTaskOf, Request, SelectBy};
 ghost use Rattle.jp_lines.specs.Run.{RunsLines};
+ghost use Rattle.jp_lines.specs.Task.{Select};
+ghost use Rattle.jp_lines.specs.Views.{task_of};
 
 use crate::answer::Asked;
-use crate::options::Options;
+use crate::options::{Options, Wanted};
 use crate::passing::{Progress, end_line, pass};
 use crate::stop::Stop;
+use crate::task::{Selection, Task};
 use jp_check::{Checked, Profile};
 use jp_command::{Fault, Output, Source, Writer, read_within_limit};
 use jp_evaluate::named_location;
@@ -26,7 +29,7 @@ const READS: u64 = u64::MAX;
 
 /// Runs `query`, read in that profile, over the lines of `input`, each of which is one document
 /// (JSON Lines, NDJSON). A line of blanks alone, or of nothing, holds none and is passed over. For
-/// each document in turn, what `options` ask for is written before the next line is read from what
+/// each document in turn, what is `wanted` is written before the next line is read from what
 /// came; one document is in memory at a time. Where the query names a location below the root, the
 /// value there is found while a line is read, without the rest of the document.
 ///
@@ -44,55 +47,62 @@ pub fn run_lines<R: Source, W: Output, E: Writer>(
     alloc: Global,
     query: &str,
     profile: Profile,
+    wanted: Wanted,
     options: Options,
     input: &mut R,
     output: &mut W,
     faults: &mut E,
 ) -> Result<bool, Stop>
     ensures { RunsLines profile options R.remaining R.has_failed R.read_gives
-        W.contents W.has_failed E.contents E.has_failed query.now
+        W.contents W.has_failed E.contents E.has_failed (SelectBy wanted query.now)
         input.old input.new output.old output.new faults.old faults.new result }
 {
     let query = read_within_limit(alloc, query, profile).map_err(Fault::from)?;
-    run_query(alloc, &query, options, input, output, faults)
+    run_selected(alloc, wanted, &query, options, input, output, faults)
 }
 
 /// The same of a query that was read.
-pub(crate) fn run_query<R: Source, W: Output, E: Writer>(
+pub(crate) fn run_selected<R: Source, W: Output, E: Writer>(
     alloc: Global,
+    wanted: Wanted,
     query: &Checked,
     options: Options,
     input: &mut R,
     output: &mut W,
     faults: &mut E,
 ) -> Result<bool, Stop>
-    ensures { (profile : Profile) (text : List ℕ) → IsAsked profile text (query_of query.now.query)
+    ensures { (profile : Profile) (request : Request)
+        → IsTaskOf profile request (Select wanted (query_of query.now.query))
         → RunsAsked profile options R.remaining R.has_failed R.read_gives
-        W.contents W.has_failed E.contents E.has_failed text
+        W.contents W.has_failed E.contents E.has_failed request
         input.old input.new output.old output.new faults.old faults.new result }
 {
     let location = named_location(alloc, query)?;
-    let asked = Asked {
-        alloc,
+    let selection = Selection {
+        wanted,
         query,
         location: location.as_deref(),
+    };
+    let asked = Asked {
+        alloc,
+        task: Task::Select(selection),
         options,
     };
     pass_all(asked, input, output, faults)
 }
 
-/// The same where the location that the query names is known.
+/// The same of any task.
 fn pass_all<R: Source, W: Output, E: Writer>(
     asked: Asked<'_>,
     input: &mut R,
     output: &mut W,
     faults: &mut E,
 ) -> Result<bool, Stop>
-    requires named { HasNamedLocation asked }
-    ensures { (profile : Profile) (text : List ℕ)
-        → IsAsked profile text (query_of asked.entry.query.now.query)
+    requires named { HasNamedLocation asked.task }
+    ensures { (profile : Profile) (request : Request)
+        → IsTaskOf profile request (task_of asked.entry.task)
         → RunsAsked profile asked.entry.options R.remaining R.has_failed R.read_gives
-        W.contents W.has_failed E.contents E.has_failed text
+        W.contents W.has_failed E.contents E.has_failed request
         input.old input.new output.old output.new faults.old faults.new result }
 {
     let mut chunk = chunk_buffer(asked.alloc)?;

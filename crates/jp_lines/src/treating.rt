@@ -2,7 +2,6 @@
 
 ghost use Rattle.std.specs.Prelude.{◌≡◌, ◌⊎◌, List, ℕ, IfErr, IfOk, OnErr, OnOk, true, false};
 ghost use Rattle.std.specs.Io.KnownBytes.{Keeps};
-ghost use Rattle.jp_tree.specs.Views.{query_of};
 ghost use Rattle.jp_command.specs.declared.fault.Fault.TheVariants as fault;
 ghost use Rattle.jp_lines.specs.Outcome.{IsRefusal, Refused, told_of};
 ghost use Rattle.jp_lines.specs.Told.{Tells};
@@ -10,6 +9,7 @@ ghost use Rattle.jp_lines.specs.declared.stop.Stop.TheVariants as stop;
 ghost use Rattle.jp_lines.specs.Private.Answers.{HasNamedLocation};
 ghost use Rattle.jp_lines.specs.Private.Passing.{kept_of};
 ghost use Rattle.jp_lines.specs.Private.Treating.{StopsEnding, Treats};
+ghost use Rattle.jp_lines.specs.Views.{task_of};
 
 use crate::answer::{Asked, Memory, answer};
 use crate::defect::{Defect, RefusedLine};
@@ -28,14 +28,14 @@ pub(crate) fn treat<W: Output, E: Writer>(
     output: &mut W,
     faults: &mut E,
 ) -> Result<bool, Stop>
-    requires named { HasNamedLocation asked }
+    requires named { HasNamedLocation asked.task }
     ensures treated { IfOk result (λ refused. (line : List ℕ) → kept.now ≡ kept_of line
         → Treats asked.entry.options W.contents W.has_failed E.contents E.has_failed
-        (query_of asked.entry.query.now.query) number line refused
+        (task_of asked.entry.task) number line refused
         output.old output.new faults.old faults.new) }
     ensures stopped { IfErr result (λ why. (line : List ℕ) → kept.now ≡ kept_of line
         → StopsEnding asked.entry.options W.contents W.has_failed E.contents E.has_failed
-        (query_of asked.entry.query.now.query) number line
+        (task_of asked.entry.task) number line
         output.old output.new faults.old faults.new why) }
 {
     match answer(asked, number, kept, memory, output)? {

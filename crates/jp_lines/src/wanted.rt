@@ -4,51 +4,92 @@ ghost use Rattle.std.specs.Prelude.{◌≡◌, ◌++◌, IfErr, IfOk, OnOk, code
 ghost use Rattle.std.specs.Fmt.{decimal};
 ghost use Rattle.jp_tree.specs.Views.{query_of};
 ghost use Rattle.jp_select.specs.Steps.{Takes};
+ghost use Rattle.jp_evaluate.specs.Nodelist.{nodelist};
 ghost use Rattle.jp_evaluate.specs.Stopping.{StopsSpent};
 ghost use Rattle.jp_command.specs.Found.{found_nodes};
 ghost use Rattle.jp_command.specs.Output.{StopsWriting, WritesAll};
-ghost use Rattle.jp_lines.specs.Outcome.{lead_of, wanted_output};
-ghost use Rattle.jp_lines.specs.Private.Answers.{nodes_output};
+ghost use Rattle.jp_lines.specs.Outcome.{lead_of};
 ghost use Rattle.jp_lines.specs.Private.Limits.{IsAllowed, WritesOrGivesUp, stop_of};
+ghost use Rattle.jp_lines.specs.Task.{nodes_output, written_for};
+ghost use Rattle.jp_lines.specs.Views.{task_of};
 
 use crate::answer::{Asked, Memory};
 use crate::count::count_selected;
 use crate::defect::Defect;
 use crate::options::Wanted;
+use crate::task::{Selection, Task};
 use itoa::Buffer;
 use jp_command::{Fault, Spare, Writer, selected_lines, write_all, write_found, write_selected};
 use jp_document::Step;
 use jp_evaluate::EvaluationFault;
 use jp_lent::Selectable;
 use jp_select::Steps;
-use std::alloc::AllocError;
+use std::alloc::{AllocError, Global};
 
-/// Writes what is asked of the document whose value is the root, or answers that the steps did not
-/// suffice for it.
-pub(crate) fn write_wanted<'d: 'q, 'q, V: Selectable + 'd, W: Writer>(
+/// Writes what is asked of the document whose value is the root, in this line of the input, or answers
+/// that the steps did not suffice for it.
+pub(crate) fn write_for<'d: 'q, 'q, V: Selectable + 'd, W: Writer>(
     asked: Asked<'q>,
     number: u64,
+    line: &[u8],
     root: V,
     memory: &mut Memory,
     output: &mut W,
 ) -> Result<Option<Defect>, Fault>
     ensures ok { IfOk result (WritesOrGivesUp W.contents W.has_failed asked.entry.options.limit
-        (wanted_output asked.entry.options.wanted (lead_of asked.entry.options.numbered number)
-        (query_of asked.entry.query.now.query) (V.meaning root)) output.old output.new) }
+        (written_for (task_of asked.entry.task) (lead_of asked.entry.options.numbered number)
+        line.now (V.meaning root)) output.old output.new) }
     ensures stopped { IfErr result (StopsWriting W.contents W.has_failed output.old output.new
-        (wanted_output asked.entry.options.wanted (lead_of asked.entry.options.numbered number)
-        (query_of asked.entry.query.now.query) (V.meaning root))) }
+        (written_for (task_of asked.entry.task) (lead_of asked.entry.options.numbered number)
+        line.now (V.meaning root))) }
 {
-    let lead = &mut memory.lead;
-    let spare = &mut memory.spare;
-    set_lead(asked.options.numbered, number, lead)?;
-    let lead = lead.as_str();
-    match (asked.options.wanted, asked.options.limit) {
+    set_lead(asked.options.numbered, number, &mut memory.lead)?;
+    let lead = memory.lead.as_str();
+    match asked.task {
+        Task::Select(selection) => {
+            write_wanted(asked, selection, lead, root, &mut memory.spare, output)
+        }
+    }
+}
+
+/// The same of a selection, behind the text `lead`.
+fn write_wanted<'d: 'q, 'q, V: Selectable + 'd, W: Writer>(
+    asked: Asked<'q>,
+    selection: Selection<'q>,
+    lead: &str,
+    root: V,
+    spare: &mut Spare,
+    output: &mut W,
+) -> Result<Option<Defect>, Fault>
+    ensures ok { IfOk result (WritesOrGivesUp W.contents W.has_failed asked.entry.options.limit
+        (nodes_output selection.entry.wanted lead.now
+        (nodelist (query_of selection.entry.query.now.query) (V.meaning root))) output.old output.new) }
+    ensures stopped { IfErr result (StopsWriting W.contents W.has_failed output.old output.new
+        (nodes_output selection.entry.wanted lead.now
+        (nodelist (query_of selection.entry.query.now.query) (V.meaning root)))) }
+{
+    match (selection.wanted, asked.options.limit) {
         (Wanted::Nodes(form), None) => {
-            write_selected(asked.alloc, form, lead, root, asked.query, spare, output)?;
+            write_selected(
+                asked.alloc,
+                form,
+                lead,
+                root,
+                selection.query,
+                spare,
+                output,
+            )?;
             Ok(None)
         }
-        (_, limit) => write_whole(asked, lead, allowed_by(limit), root, spare, output),
+        (_, limit) => write_whole(
+            asked,
+            selection,
+            lead,
+            allowed_by(limit),
+            root,
+            spare,
+            output,
+        ),
     }
 }
 
@@ -56,6 +97,7 @@ pub(crate) fn write_wanted<'d: 'q, 'q, V: Selectable + 'd, W: Writer>(
 /// made.
 fn write_whole<'d: 'q, 'q, V: Selectable + 'd, W: Writer>(
     asked: Asked<'q>,
+    selection: Selection<'q>,
     lead: &str,
     allowed: Steps,
     root: V,
@@ -64,14 +106,14 @@ fn write_whole<'d: 'q, 'q, V: Selectable + 'd, W: Writer>(
 ) -> Result<Option<Defect>, Fault>
     requires { IsAllowed asked.options.limit allowed }
     ensures ok { IfOk result (WritesOrGivesUp W.contents W.has_failed asked.entry.options.limit
-        (wanted_output asked.entry.options.wanted lead.now
-        (query_of asked.entry.query.now.query) (V.meaning root)) output.old output.new) }
+        (nodes_output selection.entry.wanted lead.now
+        (nodelist (query_of selection.entry.query.now.query) (V.meaning root))) output.old output.new) }
     ensures stopped { IfErr result (StopsWriting W.contents W.has_failed output.old output.new
-        (wanted_output asked.entry.options.wanted lead.now
-        (query_of asked.entry.query.now.query) (V.meaning root))) }
+        (nodes_output selection.entry.wanted lead.now
+        (nodelist (query_of selection.entry.query.now.query) (V.meaning root)))) }
 {
     let mut steps = allowed;
-    match make_wanted(asked, lead, root, spare, &mut steps) {
+    match make_wanted(asked.alloc, selection, lead, root, spare, &mut steps) {
         Ok(()) => {
             write_text(spare.line.as_str(), output)?;
             Ok(None)
@@ -103,32 +145,25 @@ fn stop_of(fault: EvaluationFault, made: u64) -> Result<Option<Defect>, Fault>
 
 /// Makes `spare.line` what is asked of the document whose value is the root.
 fn make_wanted<'d: 'q, 'q, V: Selectable + 'd>(
-    asked: Asked<'q>,
+    alloc: Global,
+    selection: Selection<'q>,
     lead: &str,
     root: V,
     spare: &mut Spare,
     steps: &mut Steps,
 ) -> Result<(), EvaluationFault>
-    ensures made { OnOk result (string_bytes spare.new.line ≡ wanted_output asked.entry.options.wanted
-        lead.now (query_of asked.entry.query.now.query) (V.meaning root)) }
+    ensures made { OnOk result (string_bytes spare.new.line ≡ nodes_output selection.entry.wanted
+        lead.now (nodelist (query_of selection.entry.query.now.query) (V.meaning root))) }
     ensures takes { Takes steps.old steps.new }
     ensures stopped { StopsSpent result steps.new }
 {
     let patterns = &mut spare.patterns;
-    match asked.options.wanted {
+    match selection.wanted {
         Wanted::Nodes(form) => {
-            spare.line = selected_lines(
-                asked.alloc,
-                form,
-                lead,
-                root,
-                asked.query,
-                patterns,
-                steps,
-            )?;
+            spare.line = selected_lines(alloc, form, lead, root, selection.query, patterns, steps)?;
         }
         Wanted::Count => {
-            let count = count_selected(asked.alloc, root, asked.query, patterns, steps)?;
+            let count = count_selected(alloc, root, selection.query, patterns, steps)?;
             push_count(lead, count, &mut spare.line)?;
         }
     }
@@ -139,6 +174,7 @@ fn make_wanted<'d: 'q, 'q, V: Selectable + 'd>(
 /// nothing where there is none.
 pub(crate) fn write_wanted_at<V: Selectable, W: Writer>(
     asked: Asked<'_>,
+    wanted: Wanted,
     number: u64,
     location: &[Step<'_>],
     value: Option<V>,
@@ -146,17 +182,17 @@ pub(crate) fn write_wanted_at<V: Selectable, W: Writer>(
     output: &mut W,
 ) -> Result<(), Fault>
     ensures ok { OnOk result (WritesAll W.contents W.has_failed output.old output.new
-        (nodes_output asked.entry.options.wanted (lead_of asked.entry.options.numbered number)
+        (nodes_output wanted.entry (lead_of asked.entry.options.numbered number)
         (found_nodes V.meaning location.now value))) }
     ensures stopped { IfErr result (StopsWriting W.contents W.has_failed output.old output.new
-        (nodes_output asked.entry.options.wanted (lead_of asked.entry.options.numbered number)
+        (nodes_output wanted.entry (lead_of asked.entry.options.numbered number)
         (found_nodes V.meaning location.now value))) }
 {
     let lead = &mut memory.lead;
     let line = &mut memory.spare.line;
     set_lead(asked.options.numbered, number, lead)?;
     let lead = lead.as_str();
-    match asked.options.wanted {
+    match wanted {
         Wanted::Nodes(form) => {
             write_found(asked.alloc, form, lead, location, value, line, output)
         }

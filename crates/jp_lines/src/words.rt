@@ -7,10 +7,12 @@ ghost use Rattle.clap.specs.Words.{subcommand_of, subcommand_rows_of};
 ghost use Rattle.clap.specs.declared.builder.command.Command.TheViews.{out-Command};
 ghost use Rattle.clap.specs.declared.error.kind.ErrorKind.TheVariants.{OutOfMemory};
 ghost use Rattle.jp_lines.specs.CommandLine.{asked, asked_by, jp_lines, lines_app};
-ghost use Rattle.jp_lines.specs.CommandLine.{limit_asked, options_asked, wanted_called, with_limit};
-ghost use Rattle.jp_lines.specs.CommandLine.{with_lines};
+ghost use Rattle.jp_lines.specs.CommandLine.{limit_asked, options_asked, request_by, wanted_called};
+ghost use Rattle.jp_lines.specs.CommandLine.{with_limit, with_lines};
+ghost use Rattle.jp_lines.specs.Views.{request_of};
 
 use crate::options::{Options, Wanted};
+use crate::task::Request;
 use clap::error::ErrorKind;
 use clap::{Arg, ArgAction, ArgMatches, Command, Error, value_parser};
 use jp_check::Profile;
@@ -171,11 +173,10 @@ fn limit_asked(found: &ArgMatches) -> Option<u64>
 }
 
 /// The options that the matches of a subcommand ask for.
-fn options_asked(wanted: Wanted, found: &ArgMatches) -> Options
-    ensures { result ≡ options_asked wanted (rows_of (found_of found.now)) }
+fn options_asked(found: &ArgMatches) -> Options
+    ensures { result ≡ options_asked (rows_of (found_of found.now)) }
 {
     Options {
-        wanted,
         numbered: is_set(found, "number"),
         keep_going: is_set(found, "keep-going"),
         line_buffered: is_set(found, "line-buffered"),
@@ -184,19 +185,27 @@ fn options_asked(wanted: Wanted, found: &ArgMatches) -> Options
     }
 }
 
-/// What the subcommand `name` with the matches `found` asks for.
-fn asked_by<'w>(name: &str, found: &ArgMatches<'w>) -> Option<(Options, &'w str, Profile)>
-    ensures { option_map (λ found. (found.0, found.1.now, found.2)) result
-        ≡ asked_by (name.now, rows_of (found_of found.now)) }
+/// What the subcommand `name` with the matches `found` asks for of each document.
+fn request_by<'w>(name: &str, found: &ArgMatches<'w>) -> Option<Request<'w>>
+    ensures { option_map request_of result ≡ request_by name.now (rows_of (found_of found.now)) }
 {
     let wanted = wanted_named(name)?;
     let query = found.get_str("QUERY")?;
-    Some((options_asked(wanted, found), query, profile_asked(found)))
+    Some(Request::SelectBy(wanted, query))
+}
+
+/// What the subcommand `name` with the matches `found` asks for.
+fn asked_by<'w>(name: &str, found: &ArgMatches<'w>) -> Option<(Options, Request<'w>, Profile)>
+    ensures { option_map (λ found. (found.0, request_of found.1, found.2)) result
+        ≡ asked_by (name.now, rows_of (found_of found.now)) }
+{
+    let request = request_by(name, found)?;
+    Some((options_asked(found), request, profile_asked(found)))
 }
 
 /// What the subcommand in `matches` asks for.
-fn asked_in<'w>(matches: &ArgMatches<'w>) -> Option<(Options, &'w str, Profile)>
-    ensures { option_map (λ found. (found.0, found.1.now, found.2)) result
+fn asked_in<'w>(matches: &ArgMatches<'w>) -> Option<(Options, Request<'w>, Profile)>
+    ensures { option_map (λ found. (found.0, request_of found.1, found.2)) result
         ≡ option_and_then asked_by (subcommand_rows_of matches.now) }
 {
     let (name, found) = matches.subcommand()?;
@@ -207,9 +216,9 @@ fn asked_in<'w>(matches: &ArgMatches<'w>) -> Option<(Options, &'w str, Profile)>
 pub(crate) fn read_words<'w>(
     alloc: Global,
     words: &'w [String],
-) -> Result<(Options, &'w str, Profile), Error>
+) -> Result<(Options, Request<'w>, Profile), Error>
     ensures asked { IfOk result (λ found.
-        asked (map string_bytes words.entry.now) ≡ Some (found.0, found.1.now, found.2)) }
+        asked (map string_bytes words.entry.now) ≡ Some (found.0, request_of found.1, found.2)) }
     ensures refused { IfErr result (λ error. (kind_of error ≡ OutOfMemory)
         ⊎ (asked (map string_bytes words.entry.now) ≡ None)) }
 {

@@ -2,11 +2,11 @@
 use Rattle.std.specs.Prelude.{◌≡◌, ℕ, suc, ◌+◌, Bool, true, false, ◌||◌, List, [], ◌∷◌, ◌++◌}
 use Rattle.std.specs.Prelude.{length, take, Option, not, ◌==◌}
 use Rattle.std.specs.List.{flat_map, list_all}
-use Rattle.jp_tree.specs.Tree.{QueryTree}
 use Rattle.jp_command.specs.Limits.{document_limit}
 use Rattle.jp_lines.specs.Lines.{lines_of_input, newline}
 use Rattle.jp_lines.specs.Outcome.{LineOutcome, some_refused}
 use Rattle.jp_lines.specs.Run.{Goes, StopsAmong}
+use Rattle.jp_lines.specs.Task.{Task}
 use Rattle.jp_lines.specs.declared.options.Options.{Options}
 use Rattle.jp_lines.specs.declared.passing.Progress.{Progress}
 use Rattle.jp_lines.specs.declared.stop.Stop.{Stop}
@@ -44,11 +44,11 @@ Keeps progress line = (is_in_line line ≡ true) × (progress.line.items ≡ kep
 
 module _ (options : Options) {W E : Type 0} (contents : W → Option (List ℕ))
     (writes_failed : W → Bool) (reports : E → Option (List ℕ)) (reports_failed : E → Bool)
-    (q : QueryTree) where
+    (task : Task) where
   -- lines came to outcomes, which leads from s to t
   pub record GoesThrough (lines : List (List ℕ)) (s t : Standing) (o p : W) (u v : E) : Type 0 where
     pub outcomes : List LineOutcome
-    pub goes : Goes options contents writes_failed reports reports_failed q s.number lines outcomes
+    pub goes : Goes options contents writes_failed reports reports_failed task s.number lines outcomes
         o p u v
     pub number : t.number ≡ s.number + length lines
     pub refused : t.refused ≡ s.refused || some_refused outcomes
@@ -69,7 +69,7 @@ module _ (options : Options) {W E : Type 0} (contents : W → Option (List ℕ))
   -- why the lines in what a line has and more bytes were not gone over
   abbrev pub StopsPassing : List ℕ → Progress → List ℕ → W → W → E → E → Stop → Type 0
   StopsPassing bytes a line o p u v stop =
-      StopsAmong options contents writes_failed reports reports_failed q a.number
+      StopsAmong options contents writes_failed reports reports_failed task a.number
       (lines_of_input (line ++ bytes)) (false ≡ true) 0 o p u v stop
 
   -- one line has ended, and the next one begun

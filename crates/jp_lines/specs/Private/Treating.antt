@@ -1,21 +1,21 @@
 -- What is done with one line. The clauses of `treat` and `end_line` cite it.
 use Rattle.std.specs.Prelude.{◌≡◌, ⊤, ℕ, Bool, true, false, List, [], ◌∷◌, Option}
-use Rattle.jp_tree.specs.Tree.{QueryTree}
 use Rattle.jp_command.specs.Output.{WritesAll}
 use Rattle.jp_lines.specs.Outcome.{LineOutcome, ComesTo, written_of, told_of, is_refused}
 use Rattle.jp_lines.specs.Run.{StopsAmong}
 use Rattle.jp_lines.specs.Told.{Tells}
+use Rattle.jp_lines.specs.Task.{Task}
 use Rattle.jp_lines.specs.declared.options.Options.{Options}
 use Rattle.jp_lines.specs.declared.stop.Stop.{Stop}
 
 -- o and p are the output before and after, u and v what takes the refusals of lines
 module _ (options : Options) {W E : Type 0} (contents : W → Option (List ℕ))
     (writes_failed : W → Bool) (reports : E → Option (List ℕ)) (reports_failed : E → Bool)
-    (q : QueryTree) (number : ℕ) (line : List ℕ) where
+    (task : Task) (number : ℕ) (line : List ℕ) where
   -- the line came to its outcome, which is written and told, and is a refusal or none
   pub record Treats (refused : Bool) (o p : W) (u v : E) : Type 0 where
     pub outcome : LineOutcome
-    pub comes : ComesTo options q number line outcome
+    pub comes : ComesTo options task number line outcome
     pub writes : WritesAll contents writes_failed o p (written_of outcome)
     pub tells : Tells reports reports_failed u v (told_of outcome)
     pub is : refused ≡ is_refused outcome
@@ -25,4 +25,4 @@ module _ (options : Options) {W E : Type 0} (contents : W → Option (List ℕ))
   -- why the run stopped at it
   abbrev pub StopsEnding : W → W → E → E → Stop → Type 0
   StopsEnding =
-      StopsAmong options contents writes_failed reports reports_failed q number (line ∷ []) ⊤ 0
+      StopsAmong options contents writes_failed reports reports_failed task number (line ∷ []) ⊤ 0

@@ -139,7 +139,6 @@ fn ends_a_query_that_would_go_on_for_hours(rt: HostRuntime) -> Result<(), AllocE
 #[test]
 fn tells_how_many_steps_were_made(rt: HostRuntime) -> Result<(), AllocError> {
     let options = Options {
-        wanted: Wanted::Nodes(Form::Values),
         numbered: false,
         keep_going: false,
         line_buffered: false,
@@ -151,6 +150,7 @@ fn tells_how_many_steps_were_made(rt: HostRuntime) -> Result<(), AllocError> {
         rt.alloc(),
         "$.*",
         Standard,
+        Wanted::Nodes(Form::Values),
         options,
         &mut Device::new(LISTS.as_bytes()),
         &mut Device::new(&mut output),

@@ -7,9 +7,13 @@ use jp_command::{Device, Form};
 use std::alloc::{AllocError, Global};
 use std::process::Abort;
 
+/// What is written of each document, and how a run goes over the lines.
+type Way = (Wanted, Options);
+
 /// Values, and nothing else asked for.
-const VALUES: Options = Options {
-    wanted: Wanted::Nodes(Form::Values),
+const VALUES: Way = (Wanted::Nodes(Form::Values), PLAIN);
+
+const PLAIN: Options = Options {
     numbered: false,
     keep_going: false,
     line_buffered: false,
@@ -18,23 +22,23 @@ const VALUES: Options = Options {
 };
 
 /// Numbered values of a run that goes on.
-const NUMBERED: Options = Options {
-    wanted: Wanted::Nodes(Form::Values),
-    numbered: true,
-    keep_going: true,
-    line_buffered: true,
-    explaining: false,
-    limit: None,
-};
+const NUMBERED: Way = (
+    Wanted::Nodes(Form::Values),
+    Options {
+        numbered: true,
+        keep_going: true,
+        line_buffered: true,
+        ..PLAIN
+    },
+);
 
-const COUNTED: Options = Options {
-    wanted: Wanted::Count,
-    numbered: false,
-    keep_going: true,
-    line_buffered: false,
-    explaining: false,
-    limit: None,
-};
+const COUNTED: Way = (
+    Wanted::Count,
+    Options {
+        keep_going: true,
+        ..PLAIN
+    },
+);
 
 /// Lines, how they come and what takes the output and the refusals.
 #[derive(Clone, Copy)]
@@ -71,7 +75,7 @@ type Said<'a> = (&'a str, &'a str, &'a str, usize);
 fn assert_says(
     rt: &impl Abort,
     alloc: Global,
-    options: Options,
+    (wanted, options): Way,
     case: Case<'_>,
     (answer, written, told, flushes): Said<'_>,
 ) -> Result<(), AllocError> {
@@ -81,6 +85,7 @@ fn assert_says(
         alloc,
         "$..a",
         Standard,
+        wanted,
         options,
         &mut Device::new(Trickle {
             bytes: case.lines.as_bytes(),
@@ -245,7 +250,8 @@ fn refuses_a_line_before_its_end_where_that_is_too_far(rt: HostRuntime) {
         rt.alloc(),
         "$",
         Standard,
-        VALUES,
+        VALUES.0,
+        VALUES.1,
         &mut Device::new(&mut endless),
         &mut Device::new(Narrow::new(rt.alloc(), 0)),
         &mut Device::new(Narrow::new(rt.alloc(), 0)),
@@ -280,7 +286,8 @@ fn refuses_a_query_before_it_reads(rt: HostRuntime) -> Result<(), AllocError> {
         rt.alloc(),
         "$[?distinct(@.*)]",
         Standard,
-        VALUES,
+        VALUES.0,
+        VALUES.1,
         &mut Device::new(&mut input),
         &mut Device::new(&mut taken),
         &mut Device::new(Narrow::new(rt.alloc(), 0)),

@@ -3,6 +3,7 @@ use Rattle.jp_tree.specs.Views.{query_of}
 use Rattle.jp_flat.specs.FlatValue.{lent_flat}
 use Rattle.jp_command.specs.Output.{StopsWriting, WritesAll}
 use Rattle.jp_lines.specs.Outcome.{lead_of}
+use Rattle.jp_lines.specs.Views.{selection_task}
 use Rattle.jp_lines.proofs.FoundValues.{found-wanted}
 use Rattle.jp_lines.proofs.LineLemmas.{answers-document, err-is, refuses-document, stops-document}
 use Rattle.jp_lines.proofs.answer.answer_at.Goals as goal
@@ -11,15 +12,17 @@ pub returns-in_err-write_wanted_at-in-Ok-clause-stopped :
     goal.returns-in_err-write_wanted_at-in-Ok-clause-stopped
 returns-in_err-write_wanted_at-in-Ok-clause-stopped g c =
     let options = c.args.asked.options in
-    let q = query_of c.args.asked.query.now.query in
+    let q = query_of c.args.selection.query.now.query in
+    let task = selection_task c.args.selection in
     let ks = c.args.location.now in
     let found = c.in-Ok.ensures.ok in
     let wanted =
-    found-wanted lent_flat options.wanted (lead_of options.numbered c.args.number) q found.document ks
+    found-wanted lent_flat c.args.selection.wanted (lead_of options.numbered c.args.number) q
+    found.document ks
     c.found_value-value.result c.requires.named (found.at ∙ sym c.found_value-value.ensures) in
     let fault = c.in_err-write_wanted_at-in-Ok.field-0.0 in
     err-is c.from_residual.result fault _ c.from_residual.ensures.1
-    (stops-document g.W.Writer.contents g.W.Writer.has_failed options q c.args.number
+    (stops-document g.W.Writer.contents g.W.Writer.has_failed options task c.args.number
     c.args.line.now found.document c.args.output.now c.write_wanted_at.new.output
     fault c.requires.few c.requires.some found.is
     (subst (λ text. StopsWriting g.W.Writer.contents g.W.Writer.has_failed c.args.output.now
@@ -29,13 +32,15 @@ pub returns-in_ok-write_wanted_at-in-Ok-clause-answers :
     goal.returns-in_ok-write_wanted_at-in-Ok-clause-answers
 returns-in_ok-write_wanted_at-in-Ok-clause-answers g c =
     let options = c.args.asked.options in
-    let q = query_of c.args.asked.query.now.query in
+    let q = query_of c.args.selection.query.now.query in
+    let task = selection_task c.args.selection in
     let ks = c.args.location.now in
     let found = c.in-Ok.ensures.ok in
     let wanted =
-    found-wanted lent_flat options.wanted (lead_of options.numbered c.args.number) q found.document ks
+    found-wanted lent_flat c.args.selection.wanted (lead_of options.numbered c.args.number) q
+    found.document ks
     c.found_value-value.result c.requires.named (found.at ∙ sym c.found_value-value.ensures) in
-    answers-document g.W.Writer.contents g.W.Writer.has_failed options q c.args.number
+    answers-document g.W.Writer.contents g.W.Writer.has_failed options task c.args.number
     c.args.line.now found.document c.args.output.now c.write_wanted_at.new.output
     c.requires.few c.requires.some found.is
     (subst (WritesAll g.W.Writer.contents g.W.Writer.has_failed c.args.output.now
@@ -44,5 +49,5 @@ returns-in_ok-write_wanted_at-in-Ok-clause-answers g c =
 pub returns-in-Err-clause-answers : goal.returns-in-Err-clause-answers
 returns-in-Err-clause-answers g c = rw c.defect_of.ensures
     (refuses-document g.W.Writer.contents g.W.Writer.has_failed c.args.asked.options
-    (query_of c.args.asked.query.now.query) c.args.number c.args.line.now c.in-Err.fault
+    (selection_task c.args.selection) c.args.number c.args.line.now c.in-Err.fault
     c.args.output.now c.requires.few c.requires.some c.in-Err.ensures.fault).0

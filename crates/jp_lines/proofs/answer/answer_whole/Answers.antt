@@ -1,7 +1,7 @@
 use Rattle.std.proofs.Common.{subst, sym}
 use Rattle.jp_document.specs.Document.{IsDocument}
-use Rattle.jp_tree.specs.Views.{query_of}
 use Rattle.jp_flat.specs.FlatValue.{lent_flat}
+use Rattle.jp_lines.specs.Views.{task_of}
 use Rattle.jp_lines.proofs.LineLemmas.{answers-wanted, err-is, refuses-document, stops-document}
 use Rattle.jp_lines.proofs.answer.answer_whole.Goals as goal
 
@@ -12,7 +12,7 @@ returns-in_err-defect-in-Ok-clause-stopped g c =
     let is : IsDocument c.args.line.now d = subst (IsDocument c.args.line.now) (sym c.value.ensures) c.in-Ok.ensures.ok in
     err-is c.from_residual.result c.in_err-defect-in-Ok.field-0.0 _ c.from_residual.ensures.1
     (stops-document g.W.Writer.contents g.W.Writer.has_failed c.args.asked.options
-    (query_of c.args.asked.query.now.query) c.args.number
+    (task_of c.args.asked.task) c.args.number
     c.args.line.now d c.args.output.now c.write_wanted.new.output
     c.in_err-defect-in-Ok.field-0.0 c.requires.few c.requires.some is
     c.in_err-defect-in-Ok.ensures.stopped)
@@ -23,12 +23,12 @@ returns-in_ok-defect-in-Ok-clause-answers g c =
     let d = lent_flat c.value.result in
     let is : IsDocument c.args.line.now d = subst (IsDocument c.args.line.now) (sym c.value.ensures) c.in-Ok.ensures.ok in
     answers-wanted g.W.Writer.contents g.W.Writer.has_failed c.args.asked.options
-    (query_of c.args.asked.query.now.query) c.args.number
+    (task_of c.args.asked.task) c.args.number
     c.args.line.now d c.args.output.now c.write_wanted.new.output
     c.in_ok-defect-in-Ok.defect c.requires.few c.requires.some is c.in_ok-defect-in-Ok.ensures.ok
 
 pub returns-in-Err-clause-answers : goal.returns-in-Err-clause-answers
 returns-in-Err-clause-answers g c = rw c.defect_of.ensures
     (refuses-document g.W.Writer.contents g.W.Writer.has_failed c.args.asked.options
-    (query_of c.args.asked.query.now.query) c.args.number c.args.line.now c.in-Err.fault
+    (task_of c.args.asked.task) c.args.number c.args.line.now c.in-Err.fault
     c.args.output.now c.requires.few c.requires.some c.in-Err.ensures.fault).0

@@ -1,7 +1,7 @@
 use Rattle.std.proofs.Common.{refl, ◌∙◌}
-use Rattle.jp_tree.specs.Views.{query_of}
 use Rattle.jp_command.specs.declared.fault.Fault.TheVariants as fault
 use Rattle.jp_lines.specs.Private.Passing.{standing}
+use Rattle.jp_lines.specs.Views.{task_of}
 use Rattle.jp_lines.specs.declared.stop.Stop.TheVariants as stop
 use Rattle.jp_lines.proofs.LineLemmas.{err-is, over-line, stops-counting}
 use Rattle.jp_lines.proofs.passing.end_line.Goals as goal
@@ -16,7 +16,7 @@ returns-in_err-progress-clause-stopped g c =
     err-is c.from_residual-in_err-progress.result (stop.Run fault.NoMemory) _
     c.from_residual-in_err-progress.ensures.1
     (λ line keeps. stops-counting c.args.asked.options g.W.Writer.contents g.W.Writer.has_failed
-    g.E.Writer.contents g.E.Writer.has_failed (query_of c.args.asked.query.now.query)
+    g.E.Writer.contents g.E.Writer.has_failed (task_of c.args.asked.task)
     c.args.progress.now.number line c.in_ok-refused.refused _ _ _ _
     (c.in_ok-refused.ensures.treated line (c.as_slice.ensures.value ∙ keeps.1)))
 
@@ -24,7 +24,7 @@ pub returns-clause-ended : goal.returns-clause-ended
 returns-clause-ended g c = λ line keeps. record {
   keeps = (refl, c.clear.ensures.items);
   over = over-line c.args.asked.options g.W.Writer.contents g.W.Writer.has_failed
-      g.E.Writer.contents g.E.Writer.has_failed (query_of c.args.asked.query.now.query)
+      g.E.Writer.contents g.E.Writer.has_failed (task_of c.args.asked.task)
       (standing c.args.progress.now line) _ c.in_ok-refused.refused _ _ _ _
       (c.in_ok-refused.ensures.treated line (c.as_slice.ensures.value ∙ keeps.1))
       c.in_ok-progress.ensures refl;

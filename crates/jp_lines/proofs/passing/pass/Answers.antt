@@ -1,8 +1,8 @@
 use Rattle.std.proofs.Common.{◌≡◌, ◌++◌, ◌∷◌, [], refl, rules, sym, take, drop, suc, ◌∙◌}
 use Rattle.std.proofs.Common.{append_assoc, ap, arith}
-use Rattle.jp_tree.specs.Views.{query_of}
 use Rattle.jp_command.specs.declared.fault.Fault.TheVariants as fault
 use Rattle.jp_lines.specs.Lines.{newline}
+use Rattle.jp_lines.specs.Views.{task_of}
 use Rattle.jp_lines.specs.declared.stop.Stop.TheVariants as stop
 use Rattle.jp_lines.proofs.Chunks.{on-ended, on-kept, on-none, on-stops_ending, on-stops_growing}
 use Rattle.jp_lines.proofs.Chunks.{on-stops_keeping}
@@ -15,7 +15,7 @@ loop-end-init g c = record {
   taken = [];
   is = refl;
   passes = λ line keeps. on-none c.args.asked.options g.W.Writer.contents g.W.Writer.has_failed
-      g.E.Writer.contents g.E.Writer.has_failed (query_of c.args.asked.query.now.query)
+      g.E.Writer.contents g.E.Writer.has_failed (task_of c.args.asked.task)
       c.args.progress.now line c.args.output.now c.args.faults.now keeps;
 }
 
@@ -24,7 +24,7 @@ returns-in_err-keep-clause-stopped g c =
     err-is c.from_residual.result (stop.Run fault.NoMemory) _ c.from_residual.ensures.1
     (λ line keeps. rw c.loop-end.invariant.is
     (on-stops_keeping c.args.asked.options g.W.Writer.contents g.W.Writer.has_failed
-    g.E.Writer.contents g.E.Writer.has_failed (query_of c.args.asked.query.now.query)
+    g.E.Writer.contents g.E.Writer.has_failed (task_of c.args.asked.task)
     c.loop-end.invariant.taken c.loop-end.rest.now c.args.progress.now c.loop-end.progress line
     _ _ _ _ (c.loop-end.invariant.passes line keeps)))
 
@@ -34,13 +34,13 @@ returns-in_err-keep-2-clause-stopped g c =
     c.from_residual-in_err-keep-2.ensures.1
     (λ line keeps. rw c.loop-end.invariant.is
     (on-stops_keeping c.args.asked.options g.W.Writer.contents g.W.Writer.has_failed
-    g.E.Writer.contents g.E.Writer.has_failed (query_of c.args.asked.query.now.query)
+    g.E.Writer.contents g.E.Writer.has_failed (task_of c.args.asked.task)
     c.loop-end.invariant.taken c.loop-end.rest.now c.args.progress.now c.loop-end.progress line
     _ _ _ _ (c.loop-end.invariant.passes line keeps)))
 
 pub returns-in_err-end_line-clause-stopped : goal.returns-in_err-end_line-clause-stopped
 returns-in_err-end_line-clause-stopped g c =
-    let q = query_of c.args.asked.query.now.query in
+    let task = task_of c.args.asked.task in
     let rest = c.loop-end.rest.now in
     let taken = c.loop-end.invariant.taken in
     let piece = take c.in-Some.end rest in
@@ -56,18 +56,18 @@ returns-in_err-end_line-clause-stopped g c =
     (λ line keeps.
     let kept = record c.loop-end.progress { line = c.keep.new.line } in
     let on = on-kept c.args.asked.options g.W.Writer.contents g.W.Writer.has_failed
-    g.E.Writer.contents g.E.Writer.has_failed q taken piece c.args.progress.now
+    g.E.Writer.contents g.E.Writer.has_failed task taken piece c.args.progress.now
     c.loop-end.progress kept line _ _ _ _ (c.loop-end.invariant.passes line keeps) found.0 refl refl
     c.in_ok-keep.ensures in
     rw bytes
     (on-stops_ending c.args.asked.options g.W.Writer.contents g.W.Writer.has_failed
-    g.E.Writer.contents g.E.Writer.has_failed q (taken ++ piece) more c.args.progress.now kept line
+    g.E.Writer.contents g.E.Writer.has_failed task (taken ++ piece) more c.args.progress.now kept line
     _ _ _ _ _ _ c.in_err-end_line.field-0.0 on
     (c.in_err-end_line.ensures.stopped on.next on.keeps)))
 
 pub loop-end-preserved : goal.loop-end-preserved
 loop-end-preserved g c =
-    let q = query_of c.args.asked.query.now.query in
+    let task = task_of c.args.asked.task in
     let rest = c.loop-end.rest.now in
     let taken = c.loop-end.invariant.taken in
     let piece = take c.in-Some.end rest in
@@ -84,29 +84,29 @@ loop-end-preserved g c =
           (sym (behind-place rest c.in-Some.end));
       passes = λ line keeps.
           let on = on-kept c.args.asked.options g.W.Writer.contents g.W.Writer.has_failed
-          g.E.Writer.contents g.E.Writer.has_failed q taken piece c.args.progress.now
+          g.E.Writer.contents g.E.Writer.has_failed task taken piece c.args.progress.now
           c.loop-end.progress _ line _ _ _ _ (c.loop-end.invariant.passes line keeps) found.0 refl
           refl c.in_ok-keep.ensures in
           on-ended c.args.asked.options g.W.Writer.contents g.W.Writer.has_failed
-          g.E.Writer.contents g.E.Writer.has_failed q (taken ++ piece) c.args.progress.now _
+          g.E.Writer.contents g.E.Writer.has_failed task (taken ++ piece) c.args.progress.now _
           c.end_line.new.progress line _ _ _ _ _ _ on
           (c.in_ok-end_line.ensures.ended on.next on.keeps);
     }
 
 pub returns-then-not-asked-clause-stopped : goal.returns-then-not-asked-clause-stopped
 returns-then-not-asked-clause-stopped g c = λ line keeps.
-    let q = query_of c.args.asked.query.now.query in
+    let task = task_of c.args.asked.task in
     let rest = c.loop-end.rest.now in
     let kept = record c.loop-end.progress { line = c.keep-2.new.line } in
     let on = on-kept c.args.asked.options g.W.Writer.contents g.W.Writer.has_failed
-    g.E.Writer.contents g.E.Writer.has_failed q c.loop-end.invariant.taken rest
+    g.E.Writer.contents g.E.Writer.has_failed task c.loop-end.invariant.taken rest
     c.args.progress.now c.loop-end.progress kept line _ _ _ _
     (c.loop-end.invariant.passes line keeps)
     (none-found rest (λ k below. c.in_default.ensures k (omega arith) below)) refl refl
     c.in_ok-keep-2.ensures in
     rw c.loop-end.invariant.is
     (on-stops_growing c.args.asked.options g.W.Writer.contents g.W.Writer.has_failed
-    g.E.Writer.contents g.E.Writer.has_failed q (c.loop-end.invariant.taken ++ rest)
+    g.E.Writer.contents g.E.Writer.has_failed task (c.loop-end.invariant.taken ++ rest)
     c.args.progress.now kept line _ _ _ _ _ on (search rules) refl refl (search rules)
     (search rules))
 
@@ -115,7 +115,7 @@ returns-clause-passes g c = λ line keeps.
     let rest = c.loop-end.rest.now in
     rw c.loop-end.invariant.is
     (on-kept c.args.asked.options g.W.Writer.contents g.W.Writer.has_failed
-    g.E.Writer.contents g.E.Writer.has_failed (query_of c.args.asked.query.now.query)
+    g.E.Writer.contents g.E.Writer.has_failed (task_of c.args.asked.task)
     c.loop-end.invariant.taken rest c.args.progress.now c.loop-end.progress _ line _ _ _ _
     (c.loop-end.invariant.passes line keeps)
     (none-found rest (λ k below. c.in_default.ensures k (omega arith) below)) refl refl

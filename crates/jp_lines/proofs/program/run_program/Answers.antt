@@ -1,4 +1,5 @@
 use Rattle.std.proofs.Common.{rules}
+use Rattle.jp_lines.specs.Views.{request_of}
 use Rattle.jp_lines.proofs.Told.{says-stop}
 use Rattle.jp_lines.proofs.program.run_program.Goals as goal
 
@@ -7,9 +8,9 @@ returns-in-Ok g c =
     says-stop _ _ _ _ _ _ _ _ _ _ _ _ _ c.run_and_flush.new.faults _ _ c.in-Err-run_and_flush.stop
     (record {
       options = c.in-Ok.options;
-      query = c.in-Ok.query.now;
+      request = request_of c.in-Ok.request;
       profile = c.in-Ok.profile;
       asks = search rules;
       runs = c.in-Err-run_and_flush.ensures;
     })
-    c.status_of_stop.ensures c.tell_stop.ensures
+    c.status_of_stop.ensures (rw c.query_text.ensures at c.tell_stop.ensures)

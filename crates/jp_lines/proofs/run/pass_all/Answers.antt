@@ -1,10 +1,10 @@
 use Rattle.std.proofs.Common.{◌≡◌, ◌<◌, ◌++◌, [], refl, rules, take, length, arith}
 use Rattle.std.proofs.lemmas.Grind.{common_steps}
-use Rattle.jp_tree.specs.Views.{query_of}
 use Rattle.jp_command.specs.Limits.{chunk_size}
 use Rattle.jp_command.specs.declared.fault.Fault.TheVariants as fault
 use Rattle.jp_lines.specs.Private.Asking.{RunsAsked}
 use Rattle.jp_lines.specs.Private.Passing.{standing}
+use Rattle.jp_lines.specs.Views.{task_of}
 use Rattle.jp_lines.specs.declared.stop.Stop.TheVariants as stop
 use Rattle.jp_lines.proofs.Ending.{at_start, err-so, reads-end, reads-fail, reads-more, reads-none}
 use Rattle.jp_lines.proofs.Ending.{reads-some, runs-end, runs-fail, runs-stop_in, runs-stop_last}
@@ -14,16 +14,16 @@ use Rattle.jp_lines.proofs.Outcomes.{kept-few}
 use Rattle.jp_lines.proofs.run.pass_all.Goals as goal
 
 pub returns-in_err-chunk : goal.returns-in_err-chunk
-returns-in_err-chunk g c = λ profile text asked.
+returns-in_err-chunk g c = λ profile request asked.
     err-so c.from_residual.result (stop.Run fault.NoMemory)
     (RunsAsked profile c.args.asked.options g.R.Source.remaining g.R.Source.has_failed
     g.R.Source.read_gives g.W.Writer.contents g.W.Writer.has_failed g.E.Writer.contents
-    g.E.Writer.has_failed text c.args.input.now c.args.input.now
+    g.E.Writer.has_failed request c.args.input.now c.args.input.now
     c.args.output.now c.args.output.now c.args.faults.now c.args.faults.now)
     c.from_residual.ensures.1
     (runs-stop_unread profile c.args.asked.options g.R.Source.remaining g.R.Source.has_failed
     g.R.Source.read_gives g.W.Writer.contents g.W.Writer.has_failed g.E.Writer.contents
-    g.E.Writer.has_failed (query_of c.args.asked.query.now.query) text asked
+    g.E.Writer.has_failed (task_of c.args.asked.task) request asked
     c.args.input.now c.args.output.now c.args.faults.now)
 
 pub loop-init : goal.loop-init
@@ -34,25 +34,25 @@ loop-init g c = record {
   keeps = (refl, c.new-progress.ensures.line);
   few = λ stays. omega arith;
   passes = passes-kept c.args.asked.options g.W.Writer.contents g.W.Writer.has_failed g.E.Writer.contents
-      g.E.Writer.has_failed (query_of c.args.asked.query.now.query)
+      g.E.Writer.has_failed (task_of c.args.asked.task)
       [] at_start (standing c.new-progress.result []) _ _ c.new-progress.ensures.number
       c.new-progress.ensures.refused refl;
   room = c.in_ok-chunk.ensures;
 }
 
 pub returns-in_default : goal.returns-in_default
-returns-in_default g c = λ profile text asked.
+returns-in_default g c = λ profile request asked.
     let r = c.loop.invariant in
     runs-fail profile c.args.asked.options g.R.Source.remaining g.R.Source.has_failed
     g.R.Source.read_gives g.W.Writer.contents g.W.Writer.has_failed g.E.Writer.contents
-    g.E.Writer.has_failed (query_of c.args.asked.query.now.query) text asked _ _ r.bytes (standing c.loop.progress r.line) _ _ _ _
+    g.E.Writer.has_failed (task_of c.args.asked.task) request asked _ _ r.bytes (standing c.loop.progress r.line) _ _ _ _
     (reads-fail g.R.Source.remaining g.R.Source.has_failed g.R.Source.read_gives _ c.loop.input
     c.read.new.self r.bytes r.reads c.in_default.ensures.bytes c.in_default.ensures.fails
     c.in_default.ensures.call)
     r.passes r.keeps.0 r.few
 
 pub returns-in_err-end_line : goal.returns-in_err-end_line
-returns-in_err-end_line g c = λ profile text asked.
+returns-in_err-end_line g c = λ profile request asked.
     let r = c.loop.invariant in
     let buffer = c.read.new.buffer in
     let zero : c.in-Ok.count ≡ 0 = c.if-count-eq0.true in
@@ -64,17 +64,17 @@ returns-in_err-end_line g c = λ profile text asked.
     err-so c.from_residual-in_err-end_line.result c.in_err-end_line.field-0.0
     (RunsAsked profile c.args.asked.options g.R.Source.remaining g.R.Source.has_failed
     g.R.Source.read_gives g.W.Writer.contents g.W.Writer.has_failed g.E.Writer.contents
-    g.E.Writer.has_failed text c.args.input.now c.read.new.self
+    g.E.Writer.has_failed request c.args.input.now c.read.new.self
     c.args.output.now c.end_line.new.output c.args.faults.now c.end_line.new.faults)
     c.from_residual-in_err-end_line.ensures.1
     (runs-stop_last profile c.args.asked.options g.R.Source.remaining g.R.Source.has_failed
     g.R.Source.read_gives g.W.Writer.contents g.W.Writer.has_failed g.E.Writer.contents
-    g.E.Writer.has_failed (query_of c.args.asked.query.now.query) text asked _ _ r.bytes (standing c.loop.progress r.line) _ _ _ _ _ _
+    g.E.Writer.has_failed (task_of c.args.asked.task) request asked _ _ r.bytes (standing c.loop.progress r.line) _ _ _ _ _ _
     c.in_err-end_line.field-0.0 reads r.passes r.keeps.0 r.few
     (c.in_err-end_line.ensures.stopped r.line r.keeps))
 
 pub returns-then-count-eq0 : goal.returns-then-count-eq0
-returns-then-count-eq0 g c = λ profile text asked.
+returns-then-count-eq0 g c = λ profile request asked.
     let r = c.loop.invariant in
     let buffer = c.read.new.buffer in
     let zero : c.in-Ok.count ≡ 0 = c.if-count-eq0.true in
@@ -85,12 +85,12 @@ returns-then-count-eq0 g c = λ profile text asked.
     (c.in-Ok.ensures.bytes.1 zero some) c.in-Ok.ensures.works (rw zero at c.in-Ok.ensures.call) in
     runs-end profile c.args.asked.options g.R.Source.remaining g.R.Source.has_failed
     g.R.Source.read_gives g.W.Writer.contents g.W.Writer.has_failed g.E.Writer.contents
-    g.E.Writer.has_failed (query_of c.args.asked.query.now.query) text asked _ _ r.bytes (standing c.loop.progress r.line)
+    g.E.Writer.has_failed (task_of c.args.asked.task) request asked _ _ r.bytes (standing c.loop.progress r.line)
     (standing c.end_line.new.progress []) _ _ _ _ _ _ reads r.passes r.keeps.0
     (c.in_ok-end_line.ensures.ended r.line r.keeps).over
 
 pub returns-in_err-pass : goal.returns-in_err-pass
-returns-in_err-pass g c = λ profile text asked.
+returns-in_err-pass g c = λ profile request asked.
     let r = c.loop.invariant in
     let buffer = c.read.new.buffer in
     let more = take c.in-Ok.count buffer in
@@ -103,12 +103,12 @@ returns-in_err-pass g c = λ profile text asked.
     err-so c.from_residual-in_err-pass.result c.in_err-pass.field-0.0
     (RunsAsked profile c.args.asked.options g.R.Source.remaining g.R.Source.has_failed
     g.R.Source.read_gives g.W.Writer.contents g.W.Writer.has_failed g.E.Writer.contents
-    g.E.Writer.has_failed text c.args.input.now c.read.new.self
+    g.E.Writer.has_failed request c.args.input.now c.read.new.self
     c.args.output.now c.pass.new.output c.args.faults.now c.pass.new.faults)
     c.from_residual-in_err-pass.ensures.1
     (runs-stop_in profile c.args.asked.options g.R.Source.remaining g.R.Source.has_failed
     g.R.Source.read_gives g.W.Writer.contents g.W.Writer.has_failed g.E.Writer.contents
-    g.E.Writer.has_failed (query_of c.args.asked.query.now.query) text asked _ _ r.bytes more (standing c.loop.progress r.line)
+    g.E.Writer.has_failed (task_of c.args.asked.task) request asked _ _ r.bytes more (standing c.loop.progress r.line)
     _ _ _ _ _ _ c.in_err-pass.field-0.0 reads r.passes r.keeps.0 r.few
     (rw same at (c.in_err-pass.ensures.stopped r.line r.keeps)))
 
@@ -132,15 +132,15 @@ loop-preserved g c =
       keeps = on.keeps;
       few = λ stays. kept-few on.next (rw on.keeps.1 at (c.in_ok-pass.ensures.few stays));
       passes = passes-more c.args.asked.options g.W.Writer.contents g.W.Writer.has_failed g.E.Writer.contents
-          g.E.Writer.has_failed (query_of c.args.asked.query.now.query)
+          g.E.Writer.has_failed (task_of c.args.asked.task)
           r.bytes more at_start _ _ _ _ _ _ _ _ r.passes on.passes;
       room = search rules;
     }
 
 pub returns : goal.returns
-returns g c = λ profile text asked.
+returns g c = λ profile request asked.
     let r = c.loop.invariant in
     runs-stop_reading profile c.args.asked.options g.R.Source.remaining g.R.Source.has_failed
     g.R.Source.read_gives g.W.Writer.contents g.W.Writer.has_failed g.E.Writer.contents
-    g.E.Writer.has_failed (query_of c.args.asked.query.now.query) text asked _ _ r.bytes (standing c.loop.progress r.line) _ _ _ _
+    g.E.Writer.has_failed (task_of c.args.asked.task) request asked _ _ r.bytes (standing c.loop.progress r.line) _ _ _ _
     r.reads r.passes r.keeps.0 r.few

@@ -1,8 +1,8 @@
 use Rattle.std.proofs.Common.{◌≡◌, ◌≤◌, ℕ, false, List, length, vec_len}
-use Rattle.jp_tree.specs.Views.{query_of}
 use Rattle.jp_command.specs.Limits.{chunk_size, document_limit}
 use Rattle.jp_lines.specs.Reads.{ReadsSome}
 use Rattle.jp_lines.specs.Private.Passing.{Keeps, Passes, standing}
+use Rattle.jp_lines.specs.Views.{task_of}
 use Rattle.jp_lines.proofs.Ending.{at_start}
 use Rattle.jp_lines.proofs.run.pass_all.Given as goal
 
@@ -16,7 +16,7 @@ invariant-loop g l = record {
   keeps : Keeps l.progress line;
   few : l.fn.asked.options.keep_going ≡ false → length line ≤ document_limit;
   passes : Passes l.fn.asked.options g.W.Writer.contents g.W.Writer.has_failed
-      g.E.Writer.contents g.E.Writer.has_failed (query_of l.fn.asked.query.now.query) bytes
+      g.E.Writer.contents g.E.Writer.has_failed (task_of l.fn.asked.task) bytes
       at_start (standing l.progress line) l.fn.output l.output l.fn.faults l.faults;
   room : vec_len l.chunk ≡ chunk_size;
 }

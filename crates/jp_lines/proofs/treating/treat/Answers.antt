@@ -1,6 +1,6 @@
 use Rattle.std.proofs.Common.{sym, subst}
-use Rattle.jp_tree.specs.Views.{query_of}
 use Rattle.jp_lines.specs.Private.Treating.{StopsEnding}
+use Rattle.jp_lines.specs.Views.{task_of}
 use Rattle.jp_lines.specs.declared.stop.Stop.TheVariants as stop
 use Rattle.jp_lines.proofs.LineLemmas.{err-is, stops-answering, stops-flushing, stops-refusing}
 use Rattle.jp_lines.proofs.LineLemmas.{treats-answered, treats-refused}
@@ -10,22 +10,22 @@ pub returns-in_err-answer-clause-stopped : goal.returns-in_err-answer-clause-sto
 returns-in_err-answer-clause-stopped g c =
     err-is c.from_residual.result (stop.Run c.in_err-answer.field-0.0) _ c.from_residual.ensures.1
     (λ line is. stops-answering c.args.asked.options g.W.Writer.contents g.W.Writer.has_failed
-    g.E.Writer.contents g.E.Writer.has_failed (query_of c.args.asked.query.now.query)
+    g.E.Writer.contents g.E.Writer.has_failed (task_of c.args.asked.task)
     c.args.number c.args.kept.now line is c.in_err-answer.field-0.0 _ _ _
     c.in_err-answer.ensures.stopped)
 
 pub returns-in_err-flush-in-None-clause-stopped : goal.returns-in_err-flush-in-None-clause-stopped
 returns-in_err-flush-in-None-clause-stopped g c =
-    let q = query_of c.args.asked.query.now.query in
+    let task = task_of c.args.asked.task in
     err-is c.from_residual-in_err-flush-in-None.result (stop.Run c.in_err-flush-in-None.field-0.0) _
     c.from_residual-in_err-flush-in-None.ensures.1
     (λ line is. subst
     (λ f. StopsEnding c.args.asked.options g.W.Writer.contents g.W.Writer.has_failed
-    g.E.Writer.contents g.E.Writer.has_failed q c.args.number line c.args.output.now
+    g.E.Writer.contents g.E.Writer.has_failed task c.args.number line c.args.output.now
     c.flush.new.output c.args.faults.now c.args.faults.now (stop.Run f))
     (sym c.in_err-flush-in-None.ensures.write)
     (stops-flushing c.args.asked.options g.W.Writer.contents g.W.Writer.has_failed
-    g.E.Writer.contents g.E.Writer.has_failed q c.args.number c.args.kept.now line is
+    g.E.Writer.contents g.E.Writer.has_failed task c.args.number c.args.kept.now line is
     _ c.answer.new.output _ _ (rw c.in-None.is at c.in_ok-answer.ensures.answers)
     c.flush.ensures.kept c.in_err-flush-in-None.ensures.fails))
 
@@ -36,7 +36,7 @@ returns-in_err-refuse-in-Some-clause-stopped g c =
     err-is c.from_residual-in_err-refuse-in-Some.result c.in_err-refuse-in-Some.field-0.0 _
     c.from_residual-in_err-refuse-in-Some.ensures.1
     (λ line is. stops-refusing c.args.asked.options g.W.Writer.contents g.W.Writer.has_failed
-    g.E.Writer.contents g.E.Writer.has_failed (query_of c.args.asked.query.now.query)
+    g.E.Writer.contents g.E.Writer.has_failed (task_of c.args.asked.task)
     c.args.number c.args.kept.now line is c.in-Some.defect _ _ _ _
     c.in_err-refuse-in-Some.field-0.0 answers.0 answers.1 c.in_err-refuse-in-Some.ensures.silent
     c.in_err-refuse-in-Some.ensures.stopped)
@@ -44,7 +44,7 @@ returns-in_err-refuse-in-Some-clause-stopped g c =
 pub returns-in_ok-flush-in-None-clause-treated : goal.returns-in_ok-flush-in-None-clause-treated
 returns-in_ok-flush-in-None-clause-treated g c = λ line is.
     treats-answered c.args.asked.options g.W.Writer.contents g.W.Writer.has_failed
-    g.E.Writer.contents g.E.Writer.has_failed (query_of c.args.asked.query.now.query)
+    g.E.Writer.contents g.E.Writer.has_failed (task_of c.args.asked.task)
     c.args.number c.args.kept.now line is _ c.answer.new.output _ _
     (rw c.in-None.is at c.in_ok-answer.ensures.answers) c.flush.ensures.kept
     c.in_ok-flush-in-None.ensures.works
@@ -54,6 +54,6 @@ returns-in_ok-refuse-in-Some-clause-treated g c = λ line is.
     let answers = rw c.in-Some.is at c.in_ok-answer.ensures.answers in
     let told = c.in_ok-refuse-in-Some.ensures.told in
     treats-refused c.args.asked.options g.W.Writer.contents g.W.Writer.has_failed
-    g.E.Writer.contents g.E.Writer.has_failed (query_of c.args.asked.query.now.query)
+    g.E.Writer.contents g.E.Writer.has_failed (task_of c.args.asked.task)
     c.args.number c.args.kept.now line is c.in-Some.defect told.0 _ _ _ _ answers.0 told.1 answers.1
     told.2 c.in_ok-refuse-in-Some.ensures.going

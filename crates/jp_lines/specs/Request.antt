@@ -1,0 +1,25 @@
+-- What is asked of a run, in texts, and the task that it stands for.
+use Rattle.std.specs.Prelude.{◌≡◌, ℕ, List}
+use Rattle.jp_check.specs.declared.profile.Profile.{Profile}
+use Rattle.jp_command.specs.Run.{IsAsked, RefusesQuery}
+use Rattle.jp_query.specs.declared.refusal.Refusal.{Refusal}
+use Rattle.jp_tree.specs.Tree.{QueryTree}
+use Rattle.jp_lines.specs.Task.{Select, Task}
+use Rattle.jp_lines.specs.declared.options.Wanted.{Wanted}
+
+pub data Request : Type 0 where
+  -- to write what is wanted of the nodes that the query of this text selects
+  SelectBy : Wanted → List ℕ → Request
+
+-- the text of its query
+abbrev pub query_text : Request → List ℕ
+query_text (SelectBy wanted text) = text
+
+-- the task that it stands for, where its query is accepted
+abbrev pub IsTaskOf : Profile → Request → Task → Type 0
+IsTaskOf profile (SelectBy wanted text) task =
+    (q : QueryTree) × (task ≡ Select wanted q) × IsAsked profile text q
+
+-- its query is refused with r
+abbrev pub RefusesRequest : Profile → Request → Refusal → Type 0
+RefusesRequest profile (SelectBy wanted text) r = RefusesQuery profile text r

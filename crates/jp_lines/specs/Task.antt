@@ -1,0 +1,24 @@
+-- What a run does with each document, and what is written of it.
+use Rattle.std.specs.Prelude.{ℕ, List, ◌++◌, codes, length}
+use Rattle.std.specs.Fmt.{decimal}
+use Rattle.std.specs.List.{flat_map}
+use Rattle.jp_command.specs.Lines.{line_behind}
+use Rattle.jp_document.specs.Node.{Node}
+use Rattle.jp_document.specs.Value.{Value}
+use Rattle.jp_evaluate.specs.Nodelist.{nodelist}
+use Rattle.jp_tree.specs.Tree.{QueryTree}
+use Rattle.jp_lines.specs.declared.options.Wanted.{Wanted}
+use Rattle.jp_lines.specs.declared.options.Wanted.TheVariants.{Nodes, Count}
+
+pub data Task : Type 0 where
+  -- writes what is wanted of the nodes that the query selects
+  Select : Wanted → QueryTree → Task
+
+-- what is written of these nodes, behind such a lead: their lines, or how many they are
+abbrev pub nodes_output : Wanted → List ℕ → List Node → List ℕ
+nodes_output (Nodes form) lead ns = flat_map (line_behind lead form) ns
+nodes_output Count lead ns = lead ++ decimal (length ns) ++ codes "\n"
+
+-- what is written of the document d, which stands in this line of the input, behind such a lead
+abbrev pub written_for : Task → List ℕ → List ℕ → Value → List ℕ
+written_for (Select wanted q) lead line d = nodes_output wanted lead (nodelist q d)

@@ -1,0 +1,19 @@
+-- What the program's tasks and requests stand for.
+use Rattle.jp_tree.specs.Views.{query_of}
+use Rattle.jp_lines.specs.Request.{Request, SelectBy}
+use Rattle.jp_lines.specs.Task.{Select, Task}
+use Rattle.jp_lines.specs.declared.task.Request as request
+use Rattle.jp_lines.specs.declared.task.Request.TheVariants as requests
+use Rattle.jp_lines.specs.declared.task.Selection as selection
+use Rattle.jp_lines.specs.declared.task.Task as task
+use Rattle.jp_lines.specs.declared.task.Task.TheVariants as tasks
+
+-- the task of a selection
+abbrev pub selection_task : selection.Selection → Task
+selection_task selected = Select selected.wanted (query_of selected.query.now.query)
+
+abbrev pub task_of : task.Task → Task
+task_of (tasks.Select selected) = selection_task selected
+
+abbrev pub request_of : request.Request → Request
+request_of (requests.SelectBy wanted query) = SelectBy wanted query.now

@@ -1,0 +1,27 @@
+//! What a run does with each document.
+
+use crate::options::Wanted;
+use jp_check::Checked;
+use jp_document::Step;
+
+/// What is asked of each document, in the texts of the words.
+#[derive(Clone, Copy)]
+pub(crate) enum Request<'w> {
+    /// To write what is wanted of the nodes that the query of this text selects.
+    SelectBy(Wanted, &'w str),
+}
+
+/// What a run does with each document.
+#[derive(Clone, Copy)]
+pub(crate) enum Task<'q> {
+    Select(Selection<'q>),
+}
+
+/// Writes what is wanted of the nodes that the query selects.
+#[derive(Clone, Copy)]
+pub(crate) struct Selection<'q> {
+    pub(crate) wanted: Wanted,
+    pub(crate) query: &'q Checked,
+    /// The location that the query names; None where it names none.
+    pub(crate) location: Option<&'q [Step<'q>]>,
+}
