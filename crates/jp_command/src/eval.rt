@@ -87,7 +87,8 @@ pub(crate) fn run_eval_keeping<R: Source, W: Writer>(
         }
         None => {
             let flat = read_flat(alloc, kept.as_slice())?;
-            write_selected(alloc, form, "", flat.value(), &query, &mut spare, output)
+            write_selected(alloc, form, "", flat.value(), &query, &mut spare, output)?;
+            Ok(())
         }
     }
 }

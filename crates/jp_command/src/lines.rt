@@ -8,7 +8,9 @@ ghost use Rattle.jp_command.specs.Writes.{GoesAs};
 ghost use Rattle.jp_command.specs.Private.AsFound.{WritesAsFound};
 ghost use Rattle.jp_command.specs.Private.Fronts.{ComesAlong, IsAlong, path_in_line, text_after_path};
 ghost use Rattle.jp_command.specs.Private.Shown.{GivesShown, KeepsShown};
+ghost use Rattle.jp_command.specs.Selecting.{first_nodes};
 ghost use Rattle.jp_evaluate.specs.Lent.{given_node, has_failed, place_of, rest_of, steps_of};
+ghost use Rattle.jp_evaluate.specs.Nodelist.{has_node, nodelist};
 ghost use Rattle.jp_evaluate.specs.Stopping.{StopsSpent};
 ghost use Rattle.jp_select.specs.Steps.{Takes};
 ghost use Rattle.jp_tree.specs.Views.{query_of};
@@ -95,22 +97,25 @@ pub(crate) fn push_after_path<V: Selectable>(
     line.push('\n')
 }
 
-/// The lines of all nodes that the query selects in the document whose value is the root, in the
-/// nodelist's order (RFC 9535 section 2.1.2), each behind the text `lead`. The evaluation takes from
-/// `steps` those that it makes; what was read of the patterns is kept for the next document. The
-/// errors are that memory ran out and that the steps are used up.
+/// The lines of the nodes that the query selects in the document whose value is the root, in the
+/// nodelist's order (RFC 9535 section 2.1.2), each behind the text `lead`: of all, or of as many as
+/// `most` says, with which the evaluation stops. The evaluation takes from `steps` those that it makes;
+/// what was read of the patterns is kept for the next document. The errors are that memory ran out and
+/// that the steps are used up.
 #[tactic(auto, using(crate::proofs::Fronts::along_none))]
 pub fn selected_lines<'d: 'q, 'q, V: Selectable + 'd>(
     alloc: Global,
     form: Form,
     lead: &str,
+    most: Option<u64>,
     root: V,
     query: &'q Checked,
     patterns: &mut Patterns,
     steps: &mut Steps,
 ) -> Result<String, EvaluationFault>
     ensures lines { IfOk result (λ lines. string_bytes lines
-        ≡ output_behind lead.now form (query_of query.now.query) (V.meaning root)) }
+        ≡ flat_map (line_behind lead.now form)
+        (first_nodes most (nodelist (query_of query.now.query) (V.meaning root)))) }
     ensures takes { Takes steps.old steps.new }
     ensures stopped { StopsSpent result steps.new }
 {
@@ -118,7 +123,7 @@ pub fn selected_lines<'d: 'q, 'q, V: Selectable + 'd>(
     let mut nodes = lent_nodes_with(alloc, root, query, &Marks, read, *steps);
     let mut lines = String::new(alloc);
     let mut front = Front::new(alloc);
-    let pushed = push_rest(form, lead, None, &mut nodes, &mut front, &mut lines);
+    let pushed = push_rest(form, lead, most, &mut nodes, &mut front, &mut lines);
     let (read, left) = nodes.into_parts();
     *patterns = read;
     *steps = left;
@@ -147,8 +152,9 @@ impl Spare {
 
 /// Writes a line for each node that the query selects in the document whose value is the root, in
 /// the nodelist's order (RFC 9535 section 2.1.2), each behind the text `lead`; a node's line before
-/// the next node is looked for. `Write` says that the output failed, and `NoMemory` that memory ran
-/// out; after both a prefix of the lines is written. There are no other errors.
+/// the next node is looked for. Answers whether there is a node. `Write` says that the output failed,
+/// and `NoMemory` that memory ran out; after both a prefix of the lines is written. There are no other
+/// errors.
 pub fn write_selected<'d: 'q, 'q, V: Selectable + 'd, W: Writer>(
     alloc: Global,
     form: Form,
@@ -157,13 +163,15 @@ pub fn write_selected<'d: 'q, 'q, V: Selectable + 'd, W: Writer>(
     query: &'q Checked,
     spare: &mut Spare,
     output: &mut W,
-) -> Result<(), Fault>
+) -> Result<bool, Fault>
     ensures ok { OnOk result (WritesAll W.contents W.has_failed output.old output.new
         (output_behind lead.now form (query_of query.now.query) (V.meaning root))) }
     ensures stopped { IfErr result (StopsWriting W.contents W.has_failed output.old output.new
         (output_behind lead.now form (query_of query.now.query) (V.meaning root))) }
     ensures calls { GoesAs W.write_takes output.old output.new
         (output_behind lead.now form (query_of query.now.query) (V.meaning root)) result }
+    ensures some { IfOk result (λ some.
+        some ≡ has_node (nodelist (query_of query.now.query) (V.meaning root))) }
 {
     let patterns = mem::replace(&mut spare.patterns, Patterns::new(alloc));
     let mut nodes = lent_nodes_with(alloc, root, query, &Marks, patterns, Steps::unlimited());
@@ -172,8 +180,9 @@ pub fn write_selected<'d: 'q, 'q, V: Selectable + 'd, W: Writer>(
     written
 }
 
-/// Writes the line of each node before it asks for the next. After a fault a prefix of the lines is
-/// written: those of the nodes that were given, the last of them perhaps in part or not at all.
+/// Writes the line of each node before it asks for the next, and answers whether there is one. After a
+/// fault a prefix of the lines is written: those of the nodes that were given, the last of them perhaps
+/// in part or not at all.
 pub(crate) fn write_lines<'d: 'q, 'q, V: Selectable + 'd, W: Writer>(
     alloc: Global,
     form: Form,
@@ -181,7 +190,7 @@ pub(crate) fn write_lines<'d: 'q, 'q, V: Selectable + 'd, W: Writer>(
     nodes: &mut LentNodes<'d, 'q, V, Marks>,
     line: &mut String,
     output: &mut W,
-) -> Result<(), Fault>
+) -> Result<bool, Fault>
     requires working { has_failed nodes.now ≡ false }
     requires unlimited { (steps_of nodes.now).limited ≡ false }
     ensures ok { OnOk result (WritesAll W.contents W.has_failed output.old output.new
@@ -192,7 +201,9 @@ pub(crate) fn write_lines<'d: 'q, 'q, V: Selectable + 'd, W: Writer>(
         (flat_map (line_behind lead.now form) (rest_of V.meaning nodes.old)) result }
     ensures as_found { WritesAsFound W.contents W.write_takes (line_behind lead.now form) V.meaning
         nodes.old nodes.new output.old output.new result }
+    ensures some { IfOk result (λ some. some ≡ has_node (rest_of V.meaning nodes.old)) }
 {
+    let mut some = false;
     let mut front = Front::new(alloc);
     while let Some(next) = next_unlimited(form, nodes) {
         let value = next?;
@@ -202,8 +213,9 @@ pub(crate) fn write_lines<'d: 'q, 'q, V: Selectable + 'd, W: Writer>(
         let Ok(()) = write_all(output, line.as_bytes()) else {
             return Err(Fault::Write);
         };
+        some = true;
     }
-    Ok(())
+    Ok(some)
 }
 
 /// The value of the next node, of which the evaluation keeps where it stands where the form shows a path.

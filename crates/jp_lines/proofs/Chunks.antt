@@ -53,16 +53,17 @@ module _ (options : Options) {W E : Type 0} (contents : W → Option (List ℕ))
   -- bytes that end no line are kept
   pub on-kept : (taken piece : List ℕ) (a b c : Progress) (line : List ℕ) (o p : W) (u v : E)
       → On taken a b line o p u v → is_in_line piece ≡ true → c.number ≡ b.number
-      → c.refused ≡ b.refused
+      → c.tally ≡ b.tally
       → ((begun : List ℕ) → b.line.items ≡ kept_of begun → c.line.items ≡ kept_of (begun ++ piece))
       → On (taken ++ piece) a c line o p u v
-  on-kept taken piece a b c line o p u v on in_line number refused kept = record {
+  on-kept taken piece a b c line o p u v on in_line number tally kept = record {
     next = on.next ++ piece;
     keeps = (list_all-append _ on.next piece ∙ rw (on.keeps.0, in_line) refl, kept on.next on.keeps.1);
     passes = passes-more options contents writes_failed reports reports_failed task taken piece _ _ _
         _ _ _ _ _ _ on.passes
         (passes-kept options contents writes_failed reports reports_failed task piece
-        (standing b on.next) (standing c (on.next ++ piece)) p v number refused refl);
+        (standing b on.next) (standing c (on.next ++ piece)) p v number (ap (λ t. t.refused) tally)
+        (ap (λ t. t.selected) tally) refl);
   }
 
   -- a newline ends the line

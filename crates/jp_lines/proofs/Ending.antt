@@ -21,6 +21,7 @@ use Rattle.jp_lines.specs.Task.{Task}
 use Rattle.jp_lines.specs.declared.options.Options.{Options}
 use Rattle.jp_lines.specs.declared.stop.Stop.{Stop}
 use Rattle.jp_lines.specs.declared.stop.Stop.TheVariants as stop
+use Rattle.jp_lines.specs.declared.tally.Tally.{Tally}
 use Rattle.jp_lines.proofs.Chunks.{passes-all}
 use Rattle.jp_lines.proofs.Going.{over-more, part-over, passes-lines, passes-none, stops-after}
 use Rattle.jp_lines.proofs.Going.{stops-whole}
@@ -33,7 +34,7 @@ err-so (Err x) e P is holds = subst (λ y. P (Err y)) (sym is) holds
 
 -- at the start of the first line
 abbrev pub at_start : Standing
-at_start = record { number = 1; line = []; refused = false }
+at_start = record { number = 1; line = []; refused = false; selected = false }
 
 module _ {R : Type 0} (remaining : R → Option (List ℕ)) (has_failed : R → Bool)
     (read_gives : R → Option (List ℕ) → R → Type 0) where
@@ -112,7 +113,7 @@ module _ (profile : Profile) (options : Options) {R W E : Type 0}
   abbrev Stops : ℕ → List (List ℕ) → Type 0 → ℕ → W → W → E → E → Stop → Type 0
   Stops = StopsAmong options contents writes_failed reports reports_failed task
 
-  abbrev Runs : R → R → W → W → E → E → Result Bool Stop → Type 0
+  abbrev Runs : R → R → W → W → E → E → Result Tally Stop → Type 0
   Runs = RunsAsked profile options remaining has_failed read_gives contents writes_failed reports
       reports_failed request
 
@@ -125,8 +126,9 @@ module _ (profile : Profile) (options : Options) {R W E : Type 0}
       → ReadsToEnd remaining has_failed read_gives i j bytes → Pass bytes at_start s o p u v
       → is_in_line s.line ≡ true
       → GoesThrough options contents writes_failed reports reports_failed task (s.line ∷ []) s t p r v w
-      → Runs i j o r u w (Ok t.refused)
-  runs-end i j bytes s t o p r u v w reads passes in_line over =
+      → (tally : Tally) → tally.refused ≡ t.refused → tally.selected ≡ t.selected
+      → Runs i j o r u w (Ok tally)
+  runs-end i j bytes s t o p r u v w reads passes in_line over tally refused selected =
       let all = over-more options contents writes_failed reports reports_failed task passes.lines
       (s.line ∷ []) at_start s t o p r u v w passes.over over in
       record {
@@ -141,7 +143,8 @@ module _ (profile : Profile) (options : Options) {R W E : Type 0}
             (sym (passes-all options contents writes_failed reports reports_failed task bytes at_start
             s o p u v passes in_line))
             all.goes;
-        is = all.refused;
+        refused = refused ∙ all.refused;
+        selected = selected ∙ all.selected;
       }
 
   -- where a read fails

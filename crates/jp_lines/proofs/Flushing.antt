@@ -20,6 +20,7 @@ use Rattle.jp_lines.specs.declared.defect.RefusedLine.{RefusedLine}
 use Rattle.jp_lines.specs.declared.options.Options.{Options}
 use Rattle.jp_lines.specs.declared.stop.Stop.{Stop}
 use Rattle.jp_lines.specs.declared.stop.Stop.TheVariants as stop
+use Rattle.jp_lines.specs.declared.tally.Tally.{Tally}
 use Rattle.jp_lines.proofs.Going.{not_then}
 use Rattle.jp_lines.proofs.Outcomes.{few-last}
 use Rattle.jp_lines.proofs.Splitting.{last-line, lines-some}
@@ -29,12 +30,12 @@ pub runs-asked : (profile : Profile) (options : Options) {R W E : Type 0}
     (remaining : R → Option (List ℕ)) (has_failed : R → Bool)
     (read_gives : R → Option (List ℕ) → R → Type 0) (contents : W → Option (List ℕ))
     (writes_failed : W → Bool) (reports : E → Option (List ℕ)) (reports_failed : E → Bool)
-    (request : Request) (i j : R) (o p : W) (u v : E) (answer : Result Bool Stop)
+    (request : Request) (i j : R) (o p : W) (u v : E) (answer : Result Tally Stop)
     → RunsAsked profile options remaining has_failed read_gives contents writes_failed reports
     reports_failed request i j o p u v answer
     → RunsLines profile options remaining has_failed read_gives contents writes_failed reports
     reports_failed request i j o p u v answer
-runs-asked _ _ _ _ _ _ _ _ _ _ _ _ _ _ _ _ (Ok refused) run = run
+runs-asked _ _ _ _ _ _ _ _ _ _ _ _ _ _ _ _ (Ok tally) run = run
 runs-asked _ _ _ _ _ _ _ _ _ _ _ _ _ _ _ _ (Err (stop.Line line)) run = run
 runs-asked _ _ _ _ _ _ _ _ _ _ _ _ _ _ _ _ (Err (stop.Run fault.NoMemory)) run = inr run
 runs-asked _ _ _ _ _ _ _ _ _ _ _ _ _ _ _ _ (Err (stop.Run fault.Read)) run = run
@@ -49,11 +50,11 @@ module _ (profile : Profile) (options : Options) {R W E : Type 0}
     (read_gives : R → Option (List ℕ) → R → Type 0) (contents : W → Option (List ℕ))
     (writes_failed : W → Bool) (reports : E → Option (List ℕ)) (reports_failed : E → Bool)
     (request : Request) (i j : R) (o p r : W) (u v : E) where
-  abbrev RunsTo : W → Result Bool Stop → Type 0
+  abbrev RunsTo : W → Result Tally Stop → Type 0
   RunsTo output = RunsAsked profile options remaining has_failed read_gives contents writes_failed
       reports reports_failed request i j o output u v
 
-  abbrev Flushes : Result Bool Stop → Type 0
+  abbrev Flushes : Result Tally Stop → Type 0
   Flushes = RunsAndFlushes remaining has_failed read_gives contents writes_failed reports
       reports_failed options profile request i j o r u v
 
@@ -71,8 +72,8 @@ module _ (profile : Profile) (options : Options) {R W E : Type 0}
       o output u v
 
   -- without a flush
-  runs-unflushed : (answer : Result Bool Stop) → RunsTo r answer → Flushes answer
-  runs-unflushed (Ok refused) run = run
+  runs-unflushed : (answer : Result Tally Stop) → RunsTo r answer → Flushes answer
+  runs-unflushed (Ok tally) run = run
   runs-unflushed (Err (stop.Line line)) run = run
   runs-unflushed (Err (stop.Run fault.NoMemory)) run = inr run
   runs-unflushed (Err (stop.Run fault.Read)) run = run
@@ -108,6 +109,7 @@ module _ (profile : Profile) (options : Options) {R W E : Type 0}
           rest = part.rest;
           first = part.first;
           complete = part.complete;
+          selected = part.selected;
           output = part.output;
           comes = part.comes;
           writes = record {
@@ -172,16 +174,17 @@ module _ (profile : Profile) (options : Options) {R W E : Type 0}
     }
 
     -- a flush that worked
-    flushed : (answer : Result Bool Stop) → writes_failed r ≡ writes_failed p → RunsTo p answer
+    flushed : (answer : Result Tally Stop) → writes_failed r ≡ writes_failed p → RunsTo p answer
         → RunsTo r answer
-    flushed (Ok refused) works run = record {
+    flushed (Ok tally) works run = record {
       task = run.task;
       asked = run.asked;
       bytes = run.bytes;
       reads = run.reads;
       outcomes = run.outcomes;
       goes = goes-kept run.task 1 (lines_of_input run.bytes) run.outcomes works run.goes;
-      is = run.is;
+      refused = run.refused;
+      selected = run.selected;
     }
     flushed (Err (stop.Line line)) works run =
         stops-as (stop.Line line) (stop.Line line) run
@@ -208,14 +211,14 @@ module _ (profile : Profile) (options : Options) {R W E : Type 0}
     flushed (Err (stop.Run (fault.Document f))) works run = absurd run
     flushed (Err (stop.Run fault.DocumentTooLarge)) works run = absurd run
 
-    runs-flushed : (answer : Result Bool Stop) → writes_failed r ≡ writes_failed p
+    runs-flushed : (answer : Result Tally Stop) → writes_failed r ≡ writes_failed p
         → RunsTo p answer → Flushes answer
     runs-flushed answer works run = runs-unflushed answer (flushed answer works run)
 
     -- the lines are gone over, and then the flush failed
-    done-fails : (refused : Bool) → writes_failed r ≡ true → RunsTo p (Ok refused)
+    done-fails : (tally : Tally) → writes_failed r ≡ true → RunsTo p (Ok tally)
         → StopsTo r (stop.Run fault.Write)
-    done-fails refused fails run =
+    done-fails tally fails run =
         let all = lines_of_input run.bytes in
         let last = last-line all (lines-some run.bytes) in
         record {
@@ -266,9 +269,9 @@ module _ (profile : Profile) (options : Options) {R W E : Type 0}
           fails,
         )
 
-    flush-fails : (answer : Result Bool Stop) → writes_failed r ≡ true → RunsTo p answer
+    flush-fails : (answer : Result Tally Stop) → writes_failed r ≡ true → RunsTo p answer
         → Flushes (Err (stop.Run fault.Write))
-    flush-fails (Ok refused) fails run = inl (done-fails refused fails run)
+    flush-fails (Ok tally) fails run = inl (done-fails tally fails run)
     flush-fails (Err (stop.Line line)) fails run = inl (refused-fails line fails run)
     flush-fails (Err (stop.Run fault.NoMemory)) fails run =
         inl (stops-as (stop.Run fault.NoMemory) (stop.Run fault.Write) run
@@ -283,7 +286,7 @@ module _ (profile : Profile) (options : Options) {R W E : Type 0}
     flush-fails (Err (stop.Run fault.DocumentTooLarge)) fails run = absurd run
 
     -- what is answered after the flush, or without it
-    pub flush-ends : (answer given : Result Bool Stop)
+    pub flush-ends : (answer given : Result Tally Stop)
         → ((given ≡ answer) × (writes_failed r ≡ writes_failed p))
         ⊎ ((given ≡ Err (stop.Run fault.Write)) × (writes_failed r ≡ true))
         → RunsTo p answer → Flushes given

@@ -13,7 +13,7 @@ use Rattle.jp_command.specs.declared.fault.Fault.TheVariants.{Query, Document, D
 use Rattle.jp_command.specs.declared.fault.Fault.TheVariants.{NoMemory, Read, Write}
 use Rattle.jp_lines.specs.Lines.{lines_of_input, newline}
 use Rattle.jp_lines.specs.Outcome.{LineOutcome, Refused, ComesTo, none, written_of, told_of}
-use Rattle.jp_lines.specs.Outcome.{is_refused, some_refused}
+use Rattle.jp_lines.specs.Outcome.{is_refused, is_selecting, some_refused, some_selected}
 use Rattle.jp_lines.specs.Run.{Goes, GoesInPart, StopsAmong, WritesInPart}
 use Rattle.jp_lines.specs.Told.{Tells}
 use Rattle.jp_lines.specs.Private.Passing.{GoesThrough, Passes, Standing, ended, is_in_line}
@@ -87,12 +87,13 @@ module _ (options : Options) {W E : Type 0} (contents : W → Option (List ℕ))
       quiet both = second.quiet both.1 ∙ first.quiet both.0
 
   pub over-none : (s t : Standing) (o : W) (u : E) → t.number ≡ s.number → t.refused ≡ s.refused
-      → Over [] s t o o u u
-  over-none s t o u number refused = record {
+      → t.selected ≡ s.selected → Over [] s t o o u u
+  over-none s t o u number refused selected = record {
     outcomes = [];
     goes = goes-none s.number o u;
     number = number ∙ omega arith;
     refused = refused ∙ sym (or-false s.refused);
+    selected = selected ∙ sym (or-false s.selected);
   }
 
   pub over-more : (ls ms : List (List ℕ)) (s t z : Standing) (o p r : W) (u v w : E)
@@ -107,6 +108,11 @@ module _ (options : Options) {W E : Type 0} (contents : W → Option (List ℕ))
         ∙ or_assoc s.refused (some_refused first.outcomes) (some_refused second.outcomes)
         ∙ ap (λ b. s.refused || b)
         (sym (list_any-append is_refused first.outcomes second.outcomes));
+    selected = second.selected
+        ∙ ap (λ b. b || some_selected second.outcomes) first.selected
+        ∙ or_assoc s.selected (some_selected first.outcomes) (some_selected second.outcomes)
+        ∙ ap (λ b. s.selected || b)
+        (sym (list_any-append is_selecting first.outcomes second.outcomes));
   }
 
   pub passes-none : (s : Standing) (o : W) (u : E) → Pass [] s s o o u u
@@ -114,17 +120,18 @@ module _ (options : Options) {W E : Type 0} (contents : W → Option (List ℕ))
     lines = [];
     is = append-nil s.line;
     whole = refl;
-    over = over-none s s o u refl refl;
+    over = over-none s s o u refl refl refl;
   }
 
   -- bytes that end no line
   pub passes-kept : (bytes : List ℕ) (s t : Standing) (o : W) (u : E) → t.number ≡ s.number
-      → t.refused ≡ s.refused → t.line ≡ s.line ++ bytes → Pass bytes s t o o u u
-  passes-kept bytes s t o u number refused line = record {
+      → t.refused ≡ s.refused → t.selected ≡ s.selected → t.line ≡ s.line ++ bytes
+      → Pass bytes s t o o u u
+  passes-kept bytes s t o u number refused selected line = record {
     lines = [];
     is = sym line;
     whole = refl;
-    over = over-none s t o u number refused;
+    over = over-none s t o u number refused selected;
   }
 
   -- the byte that ends one
@@ -226,6 +233,7 @@ module _ (options : Options) {W E : Type 0} (contents : W → Option (List ℕ))
         rest = next.rest ++ more;
         first = ap (λ l. l ++ more) next.first;
         complete = inl (append-some next.rest more some);
+        selected = next.selected;
         output = next.output;
         comes = next.comes;
         writes = next.writes;
@@ -253,6 +261,7 @@ module _ (options : Options) {W E : Type 0} (contents : W → Option (List ℕ))
         rest = next.rest;
         first = next.first;
         complete = inr whole;
+        selected = next.selected;
         output = next.output;
         comes = next.comes;
         writes = next.writes;

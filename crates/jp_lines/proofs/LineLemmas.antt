@@ -1,7 +1,7 @@
 -- One line: its answer, its refusal, and why a run stops at it.
 use Rattle.std.proofs.Common.{◌≡◌, ◌⊎◌, inl, inr, ℕ, suc, ◌≤◌, ◌||◌, Bool, true, false, List, []}
 use Rattle.std.proofs.Common.{◌∷◌}
-use Rattle.std.proofs.Common.{length, Option, Some, None, Result, Ok, Err, IfOk, IfErr}
+use Rattle.std.proofs.Common.{length, Option, Result, Ok, Err, IfOk, IfErr}
 use Rattle.std.proofs.Common.{subst, refl, sym, ◌∙◌, ap, arith}
 use Rattle.std.proofs.KnownBytes.{Keeps-refl}
 use Rattle.std.proofs.Math.Bool.{or-false}
@@ -30,13 +30,17 @@ use Rattle.jp_lines.specs.Private.Answers.{defect_of}
 use Rattle.jp_lines.specs.Private.Limits.{WritesOrGivesUp}
 use Rattle.jp_lines.specs.Private.Passing.{GoesThrough, Standing, kept_of}
 use Rattle.jp_lines.specs.Private.Treating.{Treats, StopsEnding}
-use Rattle.jp_lines.specs.Task.{Task, written_for}
+use Rattle.jp_lines.specs.Task.{Task, selects, written_for}
+use Rattle.jp_lines.specs.declared.answer.Answer.{Answer}
+use Rattle.jp_lines.specs.declared.answer.Answer.TheVariants as answer
+use Rattle.jp_lines.specs.declared.answer.Answer.TheVariants.{Written}
 use Rattle.jp_lines.specs.declared.defect.Defect.{Defect}
 use Rattle.jp_lines.specs.declared.defect.Defect.TheVariants as defect
 use Rattle.jp_lines.specs.declared.defect.RefusedLine.{RefusedLine}
 use Rattle.jp_lines.specs.declared.options.Options.{Options}
 use Rattle.jp_lines.specs.declared.stop.Stop.{Stop}
 use Rattle.jp_lines.specs.declared.stop.Stop.TheVariants as stop
+use Rattle.jp_lines.specs.declared.tally.Tally.{Tally}
 use Rattle.jp_lines.proofs.Going.{goes-none}
 use Rattle.jp_lines.proofs.Outcomes.{come-one, comes-kept}
 use Rattle.jp_lines.proofs.ToldLemmas.{tells-none, writes-none}
@@ -53,7 +57,7 @@ module _ {W : Type 0} (contents : W → Option (List ℕ)) (has_failed : W → B
   output d = written_for task (lead_of options.numbered n) line d
 
   pub answers-blank : (o : W) → length line ≤ document_limit → is_blank_line line ≡ true
-      → AnswersLine contents has_failed options task n line o o
+      → AnswersLine contents has_failed options task n line o o false
   answers-blank o few is = record {
     output = [];
     comes = blank few is;
@@ -62,33 +66,49 @@ module _ {W : Type 0} (contents : W → Option (List ℕ)) (has_failed : W → B
 
   pub answers-document : (d : Value) (o p : W) → length line ≤ document_limit
       → is_blank_line line ≡ false → IsDocument line d
-      → WritesAll contents has_failed o p (output d)
-      → AnswersLine contents has_failed options task n line o p
-  answers-document d o p few some is writes = record {
+      → WritesAll contents has_failed o p (output d) → (selected : Bool) → selected ≡ selects task d
+      → AnswersLine contents has_failed options task n line o p selected
+  answers-document d o p few some is writes selected same = record {
     output = output d;
-    comes = document d few some is;
+    comes = subst (λ b. ComesTo options task n line (Answered b (output d))) (sym same)
+        (document d few some is);
     writes = writes;
   }
 
   -- it is written, or given up
-  pub answers-wanted : (d : Value) (o p : W) (given : Option Defect) → length line ≤ document_limit
+  pub answers-wanted : (d : Value) (o p : W) (given : Answer) → length line ≤ document_limit
       → is_blank_line line ≡ false → IsDocument line d
-      → WritesOrGivesUp contents has_failed options.limit (output d) o p given
+      → WritesOrGivesUp contents has_failed options.limit (selects task d) (output d) o p given
       → AnswersOrRefuses contents has_failed options task n line o p given
-  answers-wanted d o p None few some is writes = answers-document d o p few some is writes
-  answers-wanted d o p (Some (defect.StepsUsedUp made)) few some is up =
+  answers-wanted d o p (Written selected) few some is writes =
+      answers-document d o p few some is writes.1 selected writes.0
+  answers-wanted d o p (answer.Refused (defect.StepsUsedUp made)) few some is up =
       (steps_used_up d made few some is up.0, up.1)
-  answers-wanted d o p (Some (defect.Document f)) few some is up = absurd up
-  answers-wanted d o p (Some defect.TooLarge) few some is up = absurd up
+  answers-wanted d o p (answer.Refused (defect.Document f)) few some is up = absurd up
+  answers-wanted d o p (answer.Refused defect.TooLarge) few some is up = absurd up
 
   pub stops-document : (d : Value) (o p : W) (f : Fault) → length line ≤ document_limit
       → is_blank_line line ≡ false → IsDocument line d
       → StopsWriting contents has_failed o p (output d) f
       → StopsAnswering contents has_failed options task n line o p f
-  stops-document d o p fault.NoMemory few some is stops =
-      (inr (record { output = output d; comes = document d few some is; writes = stops.0 }), stops.1)
-  stops-document d o p fault.Write few some is stops =
-      (record { output = output d; comes = document d few some is; writes = stops.0 }, stops.1)
+  stops-document d o p fault.NoMemory few some is stops = (
+    inr (record {
+      selected = selects task d;
+      output = output d;
+      comes = document d few some is;
+      writes = stops.0;
+    }),
+    stops.1,
+  )
+  stops-document d o p fault.Write few some is stops = (
+    record {
+      selected = selects task d;
+      output = output d;
+      comes = document d few some is;
+      writes = stops.0;
+    },
+    stops.1,
+  )
   stops-document d o p (fault.Query r) few some is stops = absurd stops
   stops-document d o p (fault.Document f) few some is stops = absurd stops
   stops-document d o p fault.DocumentTooLarge few some is stops = absurd stops
@@ -119,19 +139,21 @@ module _ (options : Options) {W E : Type 0} (contents : W → Option (List ℕ))
   comes-line : (x : LineOutcome) → Comes x → ComesTo options task n line x
   comes-line x comes = comes-kept options task n line x (subst (λ l. ComesTo options task n l x) is comes)
 
-  pub treats-answered : (o p r : W) (u : E)
-      → AnswersLine contents writes_failed options task n kept o p
+  pub treats-answered : (selected : Bool) (o p r : W) (u : E)
+      → AnswersLine contents writes_failed options task n kept o p selected
       → Keeps (contents p) (contents r) → writes_failed r ≡ writes_failed p
-      → Treats options contents writes_failed reports reports_failed task n line false o r u u
-  treats-answered o p r u answers keeps works = record {
-    outcome = Answered answers.output;
+      → Treats options contents writes_failed reports reports_failed task n line
+      (record { refused = false; selected = selected }) o r u u
+  treats-answered selected o p r u answers keeps works = record {
+    outcome = Answered selected answers.output;
     comes = comes-line _ answers.comes;
     writes = record {
       written = Appends-keeps _ _ _ _ answers.writes.written keeps;
       works = works ∙ answers.writes.works;
     };
     tells = tells-none reports reports_failed u;
-    is = refl;
+    refused = refl;
+    selected = refl;
     allowed = λ e. cc;
     quiet = λ e. refl;
   }
@@ -139,14 +161,16 @@ module _ (options : Options) {W E : Type 0} (contents : W → Option (List ℕ))
   pub treats-refused : (d : Defect) (r : RefusedLine) (o p : W) (u v : E)
       → IsDefective options kept d → IsRefusal options n kept d r → p ≡ o
       → Tells reports reports_failed u v (told_of (Refused r)) → options.keep_going ≡ true
-      → Treats options contents writes_failed reports reports_failed task n line true o p u v
+      → Treats options contents writes_failed reports reports_failed task n line
+      (record { refused = true; selected = false }) o p u v
   treats-refused d r o p u v has of same tells going = record {
     outcome = Refused r;
     comes = comes-line _ (defective d r has of);
     writes = subst (λ w. WritesAll contents writes_failed o w []) (sym same)
         (writes-none contents writes_failed o);
     tells = tells;
-    is = refl;
+    refused = refl;
+    selected = refl;
     allowed = λ e. going;
     quiet = λ e. cc;
   }
@@ -178,15 +202,16 @@ module _ (options : Options) {W E : Type 0} (contents : W → Option (List ℕ))
       in-part o p u v told
       (inl (subst (λ r. Keeps (contents o) (contents r)) (sym written) (Keeps-refl (contents o))))
 
-  part-written : (text : List ℕ) (o p : W) (u : E) → Comes (Answered text)
+  part-written : (selected : Bool) (text : List ℕ) (o p : W) (u : E) → Comes (Answered selected text)
       → AppendsPrefix (contents o) (contents p) text
       → GoesInPart options contents writes_failed reports reports_failed task n (line ∷ []) ⊤ 0 o p u u
-  part-written text o p u comes writes =
+  part-written selected text o p u comes writes =
       in-part o p u u refl (inr (record {
         line = line;
         rest = [];
         first = refl;
         complete = inr tt;
+        selected = selected;
         output = text;
         comes = comes-line _ comes;
         writes = writes;
@@ -200,21 +225,21 @@ module _ (options : Options) {W E : Type 0} (contents : W → Option (List ℕ))
           → GoesInPart options contents writes_failed reports reports_failed task n (line ∷ []) ⊤ 0
           o p u u
       go (inl same) = part-none o p u u same refl
-      go (inr part) = part-written part.output o p u part.comes part.writes
+      go (inr part) = part-written part.selected part.output o p u part.comes part.writes
   stops-answering fault.Write o p u stops =
-      (part-written stops.0.output o p u stops.0.comes stops.0.writes, stops.1)
+      (part-written stops.0.selected stops.0.output o p u stops.0.comes stops.0.writes, stops.1)
   stops-answering (fault.Query r) o p u stops = absurd stops
   stops-answering (fault.Document f) o p u stops = absurd stops
   stops-answering fault.DocumentTooLarge o p u stops = absurd stops
   stops-answering fault.Read o p u stops = absurd stops
 
   -- the flush after its answer failed
-  pub stops-flushing : (o p r : W) (u : E)
-      → AnswersLine contents writes_failed options task n kept o p
+  pub stops-flushing : (selected : Bool) (o p r : W) (u : E)
+      → AnswersLine contents writes_failed options task n kept o p selected
       → Keeps (contents p) (contents r) → writes_failed r ≡ true
       → Ends o r u u (stop.Run fault.Write)
-  stops-flushing o p r u answers keeps fails = (
-    part-written answers.output o r u answers.comes
+  stops-flushing selected o p r u answers keeps fails = (
+    part-written selected answers.output o r u answers.comes
         (prefix-whole _ _ _ (Appends-keeps _ _ _ _ answers.writes.written keeps)),
     fails,
   )
@@ -250,11 +275,11 @@ module _ (options : Options) {W E : Type 0} (contents : W → Option (List ℕ))
 module _ (options : Options) {W E : Type 0} (contents : W → Option (List ℕ))
     (writes_failed : W → Bool) (reports : E → Option (List ℕ)) (reports_failed : E → Bool)
     (task : Task) where
-  goes-line : (n : ℕ) (line : List ℕ) (refused : Bool) (o p : W) (u v : E)
-      → (treats : Treats options contents writes_failed reports reports_failed task n line refused o p u v)
+  goes-line : (n : ℕ) (line : List ℕ) (tally : Tally) (o p : W) (u v : E)
+      → (treats : Treats options contents writes_failed reports reports_failed task n line tally o p u v)
       → Goes options contents writes_failed reports reports_failed task n (line ∷ [])
       (treats.outcome ∷ []) o p u v
-  goes-line n line refused o p u v treats = record {
+  goes-line n line tally o p u v treats = record {
     come = come-one options task n line treats.outcome treats.comes;
     writes = subst (WritesAll contents writes_failed o p) (sym (append-nil _)) treats.writes;
     tells = subst (Tells reports reports_failed u v) (sym (append-nil _)) treats.tells;
@@ -263,23 +288,25 @@ module _ (options : Options) {W E : Type 0} (contents : W → Option (List ℕ))
   }
 
   -- a line that is treated is gone over
-  pub over-line : (s t : Standing) (refused : Bool) (o p : W) (u v : E)
-      → Treats options contents writes_failed reports reports_failed task s.number s.line refused o p u v
-      → t.number ≡ suc s.number → t.refused ≡ (s.refused || refused)
+  pub over-line : (s t : Standing) (tally : Tally) (o p : W) (u v : E)
+      → Treats options contents writes_failed reports reports_failed task s.number s.line tally o p u v
+      → t.number ≡ suc s.number → t.refused ≡ (s.refused || tally.refused)
+      → t.selected ≡ (s.selected || tally.selected)
       → GoesThrough options contents writes_failed reports reports_failed task (s.line ∷ []) s t o p u v
-  over-line s t refused o p u v treats number is = record {
+  over-line s t tally o p u v treats number refused selected = record {
     outcomes = treats.outcome ∷ [];
-    goes = goes-line s.number s.line refused o p u v treats;
+    goes = goes-line s.number s.line tally o p u v treats;
     number = number ∙ omega arith;
-    refused = is ∙ ap (λ b. s.refused || b) (treats.is ∙ sym (or-false _));
+    refused = refused ∙ ap (λ b. s.refused || b) (treats.refused ∙ sym (or-false _));
+    selected = selected ∙ ap (λ b. s.selected || b) (treats.selected ∙ sym (or-false _));
   }
 
   -- there are no numbers for the lines behind it
-  pub stops-counting : (n : ℕ) (line : List ℕ) (refused : Bool) (o p : W) (u v : E)
-      → Treats options contents writes_failed reports reports_failed task n line refused o p u v
+  pub stops-counting : (n : ℕ) (line : List ℕ) (tally : Tally) (o p : W) (u v : E)
+      → Treats options contents writes_failed reports reports_failed task n line tally o p u v
       → StopsEnding options contents writes_failed reports reports_failed task n line o p u v
       (stop.Run fault.NoMemory)
-  stops-counting n line refused o p u v treats = (
+  stops-counting n line tally o p u v treats = (
     record {
       lines = line ∷ [];
       rest = [];
@@ -287,7 +314,7 @@ module _ (options : Options) {W E : Type 0} (contents : W → Option (List ℕ))
       complete = inr tt;
       outcomes = treats.outcome ∷ [];
       between = p;
-      goes = goes-line n line refused o p u v treats;
+      goes = goes-line n line tally o p u v treats;
       answered = omega arith;
       next = inl (Keeps-refl (contents p));
     },

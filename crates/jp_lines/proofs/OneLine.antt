@@ -90,7 +90,7 @@ module _ (profile : Profile) {R W E : Type 0} (remaining : R → Option (List �
 
   pub one_line : OneLineIsADocument profile remaining has_failed read_gives contents writes_failed
       reports reports_failed
-  one_line form options text bytes i j o p u v numbered known single some runs =
+  one_line form options text bytes i j o p u v tally numbered works known single some runs =
       let q = runs.asked.0 in
       let task = Select (Nodes form) q in
       let same = consumed-all (remaining i) (remaining j) runs.bytes bytes runs.reads.came
@@ -99,7 +99,7 @@ module _ (profile : Profile) {R W E : Type 0} (remaining : R → Option (List �
       (subst (λ t. ComeTo options t 1 (lines_of_input runs.bytes) runs.outcomes) runs.asked.1 runs.goes.come) in
       let one = come-single options task 1 (lines_of_input bytes) runs.outcomes bytes come single in
       let unrefused : is_refused one.0 ≡ false =
-      sym (or-false (is_refused one.0)) ∙ sym (ap some_refused one.1) ∙ sym runs.is in
+      sym (or-false (is_refused one.0)) ∙ sym (ap some_refused one.1) ∙ sym runs.refused ∙ works in
       record {
         output = written_of one.0;
         is = outcome-is form options q text bytes i j one.0 numbered runs.asked.2

@@ -33,10 +33,15 @@ with_limit app = with_rule app (record (new_rule (codes "limit")) {
   parser = Some (Unsigned 1 greatest);
 })
 
--- a subcommand with the query, `--extended`, and the flags and the option of a run over lines
-unfoldable pub lines_app : Text → App
-lines_app name = with_limit (with_flag (with_flag (with_flag (with_flag (query_app name)
+-- the command with the flags and the option of a run over lines
+abbrev pub with_line_flags : App → App
+with_line_flags app = with_limit (with_flag (with_flag (with_flag (with_flag (with_flag app
     (codes "number")) (codes "keep-going")) (codes "line-buffered")) (codes "explain"))
+    (codes "exit-status"))
+
+-- a subcommand with the query, `--extended` and these
+unfoldable pub lines_app : Text → App
+lines_app name = with_line_flags (query_app name)
 
 -- the command with one such subcommand more
 abbrev pub with_lines : App → Text → App
@@ -72,6 +77,7 @@ options_asked rows = record {
   keep_going = is_set (codes "keep-going") rows;
   line_buffered = is_set (codes "line-buffered") rows;
   explaining = is_set (codes "explain") rows;
+  exit_status = is_set (codes "exit-status") rows;
   limit = limit_asked rows;
 }
 

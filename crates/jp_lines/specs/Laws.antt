@@ -10,6 +10,7 @@ use Rattle.jp_lines.specs.Request.{SelectBy}
 use Rattle.jp_lines.specs.Run.{RunsLines}
 use Rattle.jp_lines.specs.declared.options.Options.{Options}
 use Rattle.jp_lines.specs.declared.options.Wanted.TheVariants.{Nodes}
+use Rattle.jp_lines.specs.declared.tally.Tally.{Tally}
 
 -- the lines of an input, with a newline between each two, are the input again
 abbrev pub LinesJoinAgain : Type 0
@@ -24,9 +25,9 @@ module _ (profile : Profile) {R W E : Type 0} (remaining : R → Option (List �
   -- no numbers says what a run over the document says.
   abbrev pub OneLineIsADocument : Type 0
   OneLineIsADocument = (form : Form) (options : Options) (text bytes : List ℕ) (i j : R) (o p : W)
-      (u v : E) → options.numbered ≡ false
+      (u v : E) (tally : Tally) → options.numbered ≡ false → tally.refused ≡ false
       → remaining i ≡ Some bytes → lines_of_input bytes ≡ bytes ∷ [] → is_blank_line bytes ≡ false
       → RunsLines profile options remaining has_failed read_gives contents writes_failed reports
-      reports_failed (SelectBy (Nodes form) text) i j o p u v (Ok false)
+      reports_failed (SelectBy (Nodes form) text) i j o p u v (Ok tally)
       → RunsEval profile remaining has_failed read_gives contents writes_failed form text i j o p
       (Ok (tt {0}))

@@ -13,7 +13,7 @@ use Rattle.jp_json.specs.Misreading.{IsMisreading}
 use Rattle.jp_json.specs.Told.{misreading_text}
 use Rattle.jp_json.specs.declared.misreading.Misreading.{Misreading}
 use Rattle.jp_lines.specs.Lines.{is_blank_line}
-use Rattle.jp_lines.specs.Task.{Task, written_for}
+use Rattle.jp_lines.specs.Task.{Task, selects, written_for}
 use Rattle.jp_lines.specs.declared.defect.Defect.{Defect}
 use Rattle.jp_lines.specs.declared.defect.Defect.TheVariants.{Document, TooLarge, StepsUsedUp}
 use Rattle.jp_lines.specs.declared.defect.RefusedLine.{RefusedLine}
@@ -38,24 +38,30 @@ lead_of numbered number = if numbered then decimal number ++ codes "\t" else []
 -- ---- outcomes
 
 pub data LineOutcome : Type 0 where
-  Answered : List ℕ → LineOutcome
+  -- whether something is selected, and what is written
+  Answered : Bool → List ℕ → LineOutcome
   Refused : RefusedLine → LineOutcome
 
 -- what is written of a line
 abbrev pub written_of : LineOutcome → List ℕ
-written_of (Answered output) = output
+written_of (Answered selected output) = output
 written_of (Refused r) = []
 
 -- what is told of it: of a refusal, its line, and behind that what explains it
 abbrev pub told_of : LineOutcome → List ℕ
-told_of (Answered output) = []
+told_of (Answered selected output) = []
 told_of (Refused r) = refused_text r ++ (codes "\n" ++ string_bytes r.explanation)
 
 abbrev pub is_refused : LineOutcome → Bool
-is_refused (Answered output) = false
+is_refused (Answered selected output) = false
 is_refused (Refused r) = true
 
--- what is written and told of all, one after the other, and whether some are refused
+abbrev pub is_selecting : LineOutcome → Bool
+is_selecting (Answered selected output) = selected
+is_selecting (Refused r) = false
+
+-- what is written and told of all, one after the other, whether some are refused, and whether
+-- something is selected in some
 abbrev pub written_of_all : List LineOutcome → List ℕ
 written_of_all xs = flat_map written_of xs
 
@@ -64,6 +70,9 @@ told_of_all xs = flat_map told_of xs
 
 abbrev pub some_refused : List LineOutcome → Bool
 some_refused xs = list_any is_refused xs
+
+abbrev pub some_selected : List LineOutcome → Bool
+some_selected xs = list_any is_selecting xs
 
 -- the text says how the line is misread, at the input's line of that number, and a newline ends it
 pub record IsMisreadAs (number : ℕ) (line text : List ℕ) : Type 0 where
@@ -101,11 +110,11 @@ module _ (options : Options) (task : Task) where
   -- the line of that number comes to this
   pub data ComesTo (number : ℕ) (line : List ℕ) : LineOutcome → Type 0 where
     blank : length line ≤ document_limit → is_blank_line line ≡ true
-        → ComesTo number line (Answered [])
+        → ComesTo number line (Answered false [])
     document : (d : Value) → length line ≤ document_limit → is_blank_line line ≡ false
         → IsDocument line d
         → ComesTo number line
-        (Answered (written_for task (lead_of options.numbered number) line d))
+        (Answered (selects task d) (written_for task (lead_of options.numbered number) line d))
     defective : (defect : Defect) (r : RefusedLine) → IsDefective options line defect
         → IsRefusal options number line defect r → ComesTo number line (Refused r)
 

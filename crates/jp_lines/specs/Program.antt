@@ -1,7 +1,7 @@
 -- What the program says with its status: the status and the line of each stop, and `RunsProgram`,
 -- which the clause of `run_program` cites.
-use Rattle.std.specs.Prelude.{◌≡◌, ◌⊎◌, ℕ, Bool, true, false, List, Option, Some, None}
-use Rattle.std.specs.Prelude.{Result, Ok, Err}
+use Rattle.std.specs.Prelude.{◌≡◌, ◌⊎◌, ℕ, Bool, true, not, ◌&&◌, List, Option, Some, None}
+use Rattle.std.specs.Prelude.{Result, Ok, Err, if◌then◌else◌}
 use Rattle.std.specs.Io.KnownBytes.{Keeps}
 use Rattle.jp_check.specs.declared.profile.Profile.{Profile}
 use Rattle.jp_command.specs.Line.{TellsExplained, fault_line, fault_text, status_of}
@@ -15,6 +15,7 @@ use Rattle.jp_lines.specs.Run.{FailsAtRead, RunsLines, StopsAtLine}
 use Rattle.jp_lines.specs.declared.options.Options.{Options}
 use Rattle.jp_lines.specs.declared.stop.Stop.{Stop}
 use Rattle.jp_lines.specs.declared.stop.Stop.TheVariants.{Run, Line}
+use Rattle.jp_lines.specs.declared.tally.Tally.{Tally}
 
 -- what is said of a stop
 abbrev pub stop_text : Stop → List ℕ
@@ -30,6 +31,12 @@ stop_line (Run fault) = fault_line fault
 abbrev pub status_of_stop : Stop → ℕ
 status_of_stop (Line refused) = 3
 status_of_stop (Run fault) = status_of fault
+
+-- The status of a run over all lines: some are refused; or, where the status is to tell it, nothing is
+-- selected in any.
+abbrev pub status_of_end : Options → Tally → ℕ
+status_of_end options tally = if tally.refused then 3
+    else if options.exit_status && not tally.selected then 6 else 0
 
 -- u and v are what takes refusals, before and after
 module _ {E : Type 0} (reports : E → Option (List ℕ)) (reports_failed : E → Bool) where
@@ -57,7 +64,7 @@ module _ {R W E : Type 0} (remaining : R → Option (List ℕ)) (has_failed : R 
     pub fails : writes_failed p ≡ true
 
   -- what a run says that flushes the output in the end
-  abbrev pub RunsAndFlushes : Options → Profile → Request → R → R → W → W → E → E → Result Bool Stop
+  abbrev pub RunsAndFlushes : Options → Profile → Request → R → R → W → W → E → E → Result Tally Stop
       → Type 0
   RunsAndFlushes options profile request i j o p u v (Err (Run Write)) =
       StopsAtLine profile options remaining has_failed read_gives contents writes_failed reports
@@ -69,7 +76,7 @@ module _ {R W E : Type 0} (remaining : R → Option (List ℕ)) (has_failed : R 
 
   -- the run that the words ask for ended with this answer
   pub record RunEnds (words : List (List ℕ)) (i j : R) (o p : W) (u v : E)
-      (answer : Result Bool Stop) : Type 0 where
+      (answer : Result Tally Stop) : Type 0 where
     pub options : Options
     pub request : Request
     pub profile : Profile
@@ -80,10 +87,8 @@ module _ {R W E : Type 0} (remaining : R → Option (List ℕ)) (has_failed : R 
   -- memory ran out for it. Where the words are not ones that the command line takes, clap's text is
   -- told, of which its contract says nothing.
   pub data RunsProgram (words : List (List ℕ)) (i j : R) (o p : W) (u v : E) (status : ℕ) : Type 0 where
-    none_refused : status ≡ 0 → RunEnds words i j o p u v (Ok false)
-        → RunsProgram words i j o p u v status
-    some_refused : status ≡ 3 → RunEnds words i j o p u v (Ok true)
-        → RunsProgram words i j o p u v status
+    ended : (tally : Tally) (run : RunEnds words i j o p u v (Ok tally))
+        → status ≡ status_of_end run.options tally → RunsProgram words i j o p u v status
     stopped : (stop : Stop) (between : E) → status ≡ status_of_stop stop
         → RunEnds words i j o p u between (Err stop)
         → TellsStop reports reports_failed stop between v

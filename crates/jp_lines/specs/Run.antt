@@ -8,6 +8,7 @@ use Rattle.jp_command.specs.Output.{AppendsPrefix, WritesAll}
 use Rattle.jp_command.specs.declared.fault.Fault.TheVariants.{Query, NoMemory, Read, Write}
 use Rattle.jp_lines.specs.Lines.{lines_of_input}
 use Rattle.jp_lines.specs.Outcome.{LineOutcome, Answered, Refused, ComesTo, ComeTo, some_refused}
+use Rattle.jp_lines.specs.Outcome.{some_selected}
 use Rattle.jp_lines.specs.Outcome.{told_of_all, written_of_all}
 use Rattle.jp_lines.specs.Reads.{HasRead, ReadsToEnd, ReadsToFailure}
 use Rattle.jp_lines.specs.Request.{IsTaskOf, RefusesRequest, Request}
@@ -18,6 +19,7 @@ use Rattle.jp_lines.specs.declared.defect.RefusedLine.{RefusedLine}
 use Rattle.jp_lines.specs.declared.options.Options.{Options}
 use Rattle.jp_lines.specs.declared.stop.Stop.{Stop}
 use Rattle.jp_lines.specs.declared.stop.Stop.TheVariants.{Run, Line}
+use Rattle.jp_lines.specs.declared.tally.Tally.{Tally}
 
 -- o and p are the output before and after, u and v what takes the refusals of lines
 module _ (options : Options) {W E : Type 0} (contents : W → Option (List ℕ))
@@ -41,8 +43,9 @@ module _ (options : Options) {W E : Type 0} (contents : W → Option (List ℕ))
     pub rest : List (List ℕ)
     pub first : all ≡ line ∷ rest
     pub complete : (rest ≢ []) ⊎ at_end
+    pub selected : Bool
     pub output : List ℕ
-    pub comes : ComesTo options task number line (Answered output)
+    pub comes : ComesTo options task number line (Answered selected output)
     pub writes : AppendsPrefix (contents o) (contents p) output
 
   -- Among all these lines, some at the front, which are whole, came to outcomes. Behind them nothing
@@ -95,9 +98,9 @@ module _ (profile : Profile) (options : Options) {R W E : Type 0}
     (remaining : R → Option (List ℕ)) (has_failed : R → Bool)
     (read_gives : R → Option (List ℕ) → R → Type 0) (contents : W → Option (List ℕ))
     (writes_failed : W → Bool) (reports : E → Option (List ℕ)) (reports_failed : E → Bool) where
-  -- the task is asked, the input was read to its end, and all its lines came to outcomes, of which
-  -- some are refused or none
-  pub record GoesToEnd (request : Request) (i j : R) (o p : W) (u v : E) (refused : Bool) : Type 0 where
+  -- the task is asked, the input was read to its end, and all its lines came to outcomes: whether some
+  -- are refused, and whether something is selected in some
+  pub record GoesToEnd (request : Request) (i j : R) (o p : W) (u v : E) (tally : Tally) : Type 0 where
     pub task : Task
     pub asked : IsTaskOf profile request task
     pub bytes : List ℕ
@@ -105,7 +108,8 @@ module _ (profile : Profile) (options : Options) {R W E : Type 0}
     pub outcomes : List LineOutcome
     pub goes : Goes options contents writes_failed reports reports_failed task 1
         (lines_of_input bytes) outcomes o p u v
-    pub is : refused ≡ some_refused outcomes
+    pub refused : tally.refused ≡ some_refused outcomes
+    pub selected : tally.selected ≡ some_selected outcomes
 
   -- the task is asked, a read failed, and what came before it but for its last line, which had not
   -- ended nor grown too large for a run that does not go on, came to outcomes
@@ -139,8 +143,8 @@ module _ (profile : Profile) (options : Options) {R W E : Type 0}
         (lines_of_input (before ++ rest)) (at_end ≡ true) (length ended) o p u v stop
 
   -- what a run says with its answer
-  abbrev pub RunsLines : Request → R → R → W → W → E → E → Result Bool Stop → Type 0
-  RunsLines request i j o p u v (Ok refused) = GoesToEnd request i j o p u v refused
+  abbrev pub RunsLines : Request → R → R → W → W → E → E → Result Tally Stop → Type 0
+  RunsLines request i j o p u v (Ok tally) = GoesToEnd request i j o p u v tally
   RunsLines request i j o p u v (Err (Line r)) = StopsAtLine request i j o p u v (Line r)
   RunsLines request i j o p u v (Err (Run (Query r))) =
       RefusesRequest profile request r × (j ≡ i) × (p ≡ o) × (v ≡ u)

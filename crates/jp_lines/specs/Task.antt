@@ -1,11 +1,11 @@
--- What a run does with each document, and what is written of it.
-use Rattle.std.specs.Prelude.{ℕ, List, ◌++◌, codes, length}
+-- What a run does with each document: what is written of it, and whether something in it is selected.
+use Rattle.std.specs.Prelude.{ℕ, Bool, List, ◌++◌, codes, length}
 use Rattle.std.specs.Fmt.{decimal}
 use Rattle.std.specs.List.{flat_map}
 use Rattle.jp_command.specs.Lines.{line_behind}
 use Rattle.jp_document.specs.Node.{Node}
 use Rattle.jp_document.specs.Value.{Value}
-use Rattle.jp_evaluate.specs.Nodelist.{nodelist}
+use Rattle.jp_evaluate.specs.Nodelist.{has_node, nodelist}
 use Rattle.jp_tree.specs.Tree.{QueryTree}
 use Rattle.jp_lines.specs.declared.options.Wanted.{Wanted}
 use Rattle.jp_lines.specs.declared.options.Wanted.TheVariants.{Nodes, Count}
@@ -22,3 +22,7 @@ nodes_output Count lead ns = lead ++ decimal (length ns) ++ codes "\n"
 -- what is written of the document d, which stands in this line of the input, behind such a lead
 abbrev pub written_for : Task → List ℕ → List ℕ → Value → List ℕ
 written_for (Select wanted q) lead line d = nodes_output wanted lead (nodelist q d)
+
+-- something is selected in the document d
+abbrev pub selects : Task → Value → Bool
+selects (Select wanted q) d = has_node (nodelist q d)

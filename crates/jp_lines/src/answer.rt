@@ -29,6 +29,15 @@ pub(crate) struct Asked<'q> {
     pub(crate) options: Options,
 }
 
+/// What a line comes to.
+#[derive(Drop)]
+pub(crate) enum Answer {
+    /// All that is to be written of it is written; whether something in it is selected.
+    Written(bool),
+    /// It is refused, and nothing is written of it.
+    Refused(Defect),
+}
+
 /// The memory that goes from one line to the next.
 #[derive(Drop)]
 pub(crate) struct Memory {
@@ -65,7 +74,7 @@ pub(crate) fn answer<W: Writer>(
     line: &[u8],
     memory: &mut Memory,
     output: &mut W,
-) -> Result<Option<Defect>, Fault>
+) -> Result<Answer, Fault>
     requires named { HasNamedLocation asked.task }
     ensures answers { IfOk result (AnswersOrRefuses W.contents W.has_failed asked.entry.options
         (task_of asked.entry.task) number line.now output.old output.new) }
@@ -73,10 +82,10 @@ pub(crate) fn answer<W: Writer>(
         (task_of asked.entry.task) number line.now output.old output.new) }
 {
     if line.len() > DOCUMENT_LIMIT {
-        return Ok(Some(Defect::TooLarge));
+        return Ok(Answer::Refused(Defect::TooLarge));
     }
     if is_blank_line(line) {
-        return Ok(None);
+        return Ok(Answer::Written(false));
     }
     match asked.task {
         Task::Select(selection) => match selection.location {
@@ -99,7 +108,7 @@ fn answer_at<W: Writer>(
     line: &[u8],
     memory: &mut Memory,
     output: &mut W,
-) -> Result<Option<Defect>, Fault>
+) -> Result<Answer, Fault>
     requires named { NamesLocation (query_of selection.query.now.query)
         (map step_of location.now) }
     requires few { length line.now ≤ document_limit }
@@ -112,7 +121,7 @@ fn answer_at<W: Writer>(
     match read_value_at(asked.alloc, line, location) {
         Ok(found) => {
             let value = found_value(&found);
-            write_wanted_at(
+            let selected = write_wanted_at(
                 asked,
                 selection.wanted,
                 number,
@@ -121,7 +130,7 @@ fn answer_at<W: Writer>(
                 memory,
                 output,
             )?;
-            Ok(None)
+            Ok(Answer::Written(selected))
         }
         Err(fault) => defect_of(fault),
     }
@@ -134,7 +143,7 @@ fn answer_whole<W: Writer>(
     line: &[u8],
     memory: &mut Memory,
     output: &mut W,
-) -> Result<Option<Defect>, Fault>
+) -> Result<Answer, Fault>
     requires few { length line.now ≤ document_limit }
     requires some { is_blank_line line.now ≡ false }
     ensures answers { IfOk result (AnswersOrRefuses W.contents W.has_failed asked.entry.options
@@ -145,9 +154,9 @@ fn answer_whole<W: Writer>(
     let room = mem::replace(&mut memory.room, Room::new(asked.alloc));
     match read_into(asked.alloc, room, line) {
         Ok(flat) => {
-            let defect = write_for(asked, number, line, flat.value(), memory, output)?;
+            let answer = write_for(asked, number, line, flat.value(), memory, output)?;
             memory.room = flat.into_room();
-            Ok(defect)
+            Ok(answer)
         }
         Err((room, fault)) => {
             memory.room = room;
@@ -157,11 +166,11 @@ fn answer_whole<W: Writer>(
 }
 
 /// The defect of a line with that fault. Want of memory is none.
-fn defect_of(fault: DocumentFault) -> Result<Option<Defect>, Fault>
+fn defect_of(fault: DocumentFault) -> Result<Answer, Fault>
     ensures { result ≡ defect_of fault }
 {
     match fault {
         DocumentFault::NoMemory => Err(Fault::NoMemory),
-        fault => Ok(Some(Defect::Document(fault))),
+        fault => Ok(Answer::Refused(Defect::Document(fault))),
     }
 }

@@ -3,7 +3,7 @@
 //! ```text
 //! let mut faults = Device::new(rt.stderr());
 //! let values = Wanted::Nodes(Form::Values);
-//! let refused =
+//! let tally =
 //!     run_lines(alloc, "$.user.id", Standard, values, options, &mut input, &mut output, &mut faults)?;
 //! ```
 //!
@@ -25,6 +25,7 @@ mod passing;
 mod program;
 mod run;
 mod stop;
+mod tally;
 mod task;
 mod telling;
 #[cfg(test)]
@@ -38,3 +39,4 @@ pub use options::{Options, Wanted};
 pub use program::run_program;
 pub use run::run_lines;
 pub use stop::Stop;
+pub use tally::Tally;

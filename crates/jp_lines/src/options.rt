@@ -22,6 +22,8 @@ pub struct Options {
     pub line_buffered: bool,
     /// Whether it is told of a line that is no document why it is none, and where.
     pub explaining: bool,
+    /// Whether the program's status tells that nothing was selected.
+    pub exit_status: bool,
     /// The most steps that the evaluation over one document may make; None: as many as it takes.
     pub limit: Option<u64>,
 }

@@ -11,6 +11,7 @@ use crate::answer::{Asked, Memory};
 use crate::count::number_after;
 use crate::defect::{Defect, RefusedLine};
 use crate::stop::Stop;
+use crate::tally::Tally;
 use crate::treating::treat;
 use jp_command::{DOCUMENT_LIMIT, Output, Writer};
 use memchr::memchr;
@@ -23,8 +24,8 @@ pub(crate) struct Progress {
     pub(crate) number: u64,
     /// What has come of it, but at most one byte more than a document may have.
     pub(crate) line: Vec<u8>,
-    /// Whether some line was refused.
-    pub(crate) refused: bool,
+    /// What is said of the lines before it.
+    pub(crate) tally: Tally,
     pub(crate) memory: Memory,
 }
 
@@ -33,12 +34,13 @@ impl Progress {
     pub(crate) fn new(alloc: Global) -> Progress
         ensures number { result.number ≡ 1 }
         ensures line { result.line.items ≡ [] }
-        ensures refused { result.refused ≡ false }
+        ensures refused { result.tally.refused ≡ false }
+        ensures selected { result.tally.selected ≡ false }
     {
         Progress {
             number: 1,
             line: Vec::new(alloc),
-            refused: false,
+            tally: Tally::none(),
             memory: Memory::new(alloc),
         }
     }
@@ -108,7 +110,7 @@ pub(crate) fn end_line<W: Output, E: Writer>(
         (task_of asked.entry.task) progress.old.number line
         output.old output.new faults.old faults.new stop) }
 {
-    let refused = treat(
+    let tally = treat(
         asked,
         progress.number,
         progress.line.as_slice(),
@@ -116,7 +118,7 @@ pub(crate) fn end_line<W: Output, E: Writer>(
         output,
         faults,
     )?;
-    progress.refused |= refused;
+    progress.tally = progress.tally.with(tally);
     progress.line.clear();
     progress.number = number_after(progress.number)?;
     Ok(())

@@ -4,7 +4,8 @@ ghost use Rattle.std.specs.Prelude.{◌≡◌, ◌⊎◌, Err, map, string_bytes
 ghost use Rattle.std.specs.Io.KnownBytes.{Keeps};
 ghost use Rattle.jp_command.specs.declared.fault.Fault.TheVariants.{Write};
 ghost use Rattle.jp_lines.specs.Private.Telling.{TellsRun};
-ghost use Rattle.jp_lines.specs.Program.{RunsAndFlushes, RunsProgram, TellsStop, status_of_stop};
+ghost use Rattle.jp_lines.specs.Program.{RunsAndFlushes, RunsProgram, TellsStop, status_of_end};
+ghost use Rattle.jp_lines.specs.Program.{status_of_stop};
 ghost use Rattle.jp_lines.specs.Request.{query_text};
 ghost use Rattle.jp_lines.specs.Views.{request_of};
 ghost use Rattle.jp_lines.specs.declared.stop.Stop.TheVariants.{Run};
@@ -12,6 +13,7 @@ ghost use Rattle.jp_lines.specs.declared.stop.Stop.TheVariants.{Run};
 use crate::options::Options;
 use crate::run::run_selected;
 use crate::stop::Stop;
+use crate::tally::Tally;
 use crate::task::Request;
 use crate::telling::tell;
 use crate::treating::flush;
@@ -25,12 +27,15 @@ use std::alloc::Global;
 /// The status of a run of which some line is refused.
 const LINE_REFUSED: u8 = 3;
 
+/// The status of a run in which nothing is selected, where that is to be told by it.
+const NOTHING_SELECTED: u8 = 6;
+
 /// Does what `words` ask for, of which the first is the program's name, and answers the status: 0
 /// where it is done, 1 where the query is refused, 2 where the words are not ones that the command
 /// line takes, 3 where some line is refused, 4 where the memory did not suffice, 5 where the input
-/// or the output failed. Every status but 0 has its line in `faults`, if it can be written there,
-/// and status 3 after `--keep-going` one for each line that is refused; with status 2 that is clap's
-/// own text. Behind the line of a refused query stands an explanation, if there is memory for it. The
+/// or the output failed, and with `--exit-status` 6 where it is done and nothing was selected. Statuses
+/// 1 to 5 have their line in `faults`, if it can be written there, and status 3 after `--keep-going` one
+/// for each line that is refused; with status 2 that is clap's own text. Behind the line of a refused query stands an explanation, if there is memory for it. The
 /// output is flushed at the end of a run, before anything is told of that, unless a
 /// write has failed; where the flush fails, that is told alone.
 pub fn run_program<R: Source, W: Output, E: Writer>(
@@ -48,8 +53,7 @@ pub fn run_program<R: Source, W: Output, E: Writer>(
         Ok((options, request, profile)) => match run_and_flush(
             alloc, request, profile, options, input, output, faults,
         ) {
-            Ok(false) => 0,
-            Ok(true) => LINE_REFUSED,
+            Ok(tally) => status_of_end(options, tally),
             Err(stop) => {
                 tell_stop(alloc, &stop, query_text(request), profile, faults);
                 status_of_stop(&stop)
@@ -68,7 +72,7 @@ fn run_and_flush<R: Source, W: Output, E: Writer>(
     input: &mut R,
     output: &mut W,
     faults: &mut E,
-) -> Result<bool, Stop>
+) -> Result<Tally, Stop>
     ensures { RunsAndFlushes R.remaining R.has_failed R.read_gives
         W.contents W.has_failed E.contents E.has_failed options profile (request_of request.entry)
         input.old input.new output.old output.new faults.old faults.new result }
@@ -93,7 +97,7 @@ fn query_text<'w>(request: Request<'w>) -> &'w str
 
 /// Flushes the output of a run that has ended, unless a write has failed. Answers how the run ended, or
 /// that the flush failed.
-fn flush_ended<W: Output>(ended: Result<bool, Stop>, output: &mut W) -> Result<bool, Stop>
+fn flush_ended<W: Output>(ended: Result<Tally, Stop>, output: &mut W) -> Result<Tally, Stop>
     ensures kept { Keeps (W.contents output.old) (W.contents output.new) }
     ensures ends { ((result ≡ ended) × (W.has_failed output.new ≡ W.has_failed output.old))
         ⊎ ((result ≡ Err (Run Write)) × (W.has_failed output.new ≡ true)) }
@@ -104,6 +108,19 @@ fn flush_ended<W: Output>(ended: Result<bool, Stop>, output: &mut W) -> Result<b
     match flush(true, output) {
         Ok(()) => ended,
         Err(_) => Err(Stop::Run(Fault::Write)),
+    }
+}
+
+/// The status of a run over all lines.
+fn status_of_end(options: Options, tally: Tally) -> u8
+    ensures { result ≡ status_of_end options tally }
+{
+    if tally.refused {
+        LINE_REFUSED
+    } else if options.exit_status && !tally.selected {
+        NOTHING_SELECTED
+    } else {
+        0
     }
 }
 

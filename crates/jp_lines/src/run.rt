@@ -15,6 +15,7 @@ use crate::answer::Asked;
 use crate::options::{Options, Wanted};
 use crate::passing::{Progress, end_line, pass};
 use crate::stop::Stop;
+use crate::tally::Tally;
 use crate::task::{Selection, Task};
 use jp_check::{Checked, Profile};
 use jp_command::{Fault, Output, Source, Writer, read_within_limit};
@@ -33,7 +34,7 @@ const READS: u64 = u64::MAX;
 /// came; one document is in memory at a time. Where the query names a location below the root, the
 /// value there is found while a line is read, without the rest of the document.
 ///
-/// Answers whether some line was refused: a line that is no document, or whose document needs more
+/// Answers whether something was selected, and whether some line was refused: one that is no document, or whose document needs more
 /// steps than `limit` says, is told to `faults`, where `keep_going` asks the run to go on, and is else
 /// the `Line` that the run stops with. Of a line that is refused nothing is written: where there is a
 /// limit, what is written of a document is made in memory first. What can't be
@@ -52,7 +53,7 @@ pub fn run_lines<R: Source, W: Output, E: Writer>(
     input: &mut R,
     output: &mut W,
     faults: &mut E,
-) -> Result<bool, Stop>
+) -> Result<Tally, Stop>
     ensures { RunsLines profile options R.remaining R.has_failed R.read_gives
         W.contents W.has_failed E.contents E.has_failed (SelectBy wanted query.now)
         input.old input.new output.old output.new faults.old faults.new result }
@@ -70,7 +71,7 @@ pub(crate) fn run_selected<R: Source, W: Output, E: Writer>(
     input: &mut R,
     output: &mut W,
     faults: &mut E,
-) -> Result<bool, Stop>
+) -> Result<Tally, Stop>
     ensures { (profile : Profile) (request : Request)
         → IsTaskOf profile request (Select wanted (query_of query.now.query))
         → RunsAsked profile options R.remaining R.has_failed R.read_gives
@@ -97,7 +98,7 @@ fn pass_all<R: Source, W: Output, E: Writer>(
     input: &mut R,
     output: &mut W,
     faults: &mut E,
-) -> Result<bool, Stop>
+) -> Result<Tally, Stop>
     requires named { HasNamedLocation asked.task }
     ensures { (profile : Profile) (request : Request)
         → IsTaskOf profile request (task_of asked.entry.task)
@@ -113,7 +114,7 @@ fn pass_all<R: Source, W: Output, E: Writer>(
         };
         if count == 0 {
             end_line(asked, &mut progress, output, faults)?;
-            return Ok(progress.refused);
+            return Ok(progress.tally);
         }
         pass(asked, &mut progress, &chunk[..count], output, faults)?;
     }

@@ -11,15 +11,16 @@ ghost use Rattle.jp_lines.specs.Private.Passing.{kept_of};
 ghost use Rattle.jp_lines.specs.Private.Treating.{StopsEnding, Treats};
 ghost use Rattle.jp_lines.specs.Views.{task_of};
 
-use crate::answer::{Asked, Memory, answer};
+use crate::answer::{Answer, Asked, Memory, answer};
 use crate::defect::{Defect, RefusedLine};
 use crate::explaining::explanation;
 use crate::stop::Stop;
+use crate::tally::Tally;
 use crate::telling::tell;
 use jp_command::{Fault, Output, Writer};
 
-/// Writes what is asked of a line's document, or tells that the line is refused; answers whether it
-/// is. Of the line it takes what is kept of it.
+/// Writes what is asked of a line's document, or tells that the line is refused; answers what is to be
+/// said of it. Of the line it takes what is kept of it.
 pub(crate) fn treat<W: Output, E: Writer>(
     asked: Asked<'_>,
     number: u64,
@@ -27,11 +28,11 @@ pub(crate) fn treat<W: Output, E: Writer>(
     memory: &mut Memory,
     output: &mut W,
     faults: &mut E,
-) -> Result<bool, Stop>
+) -> Result<Tally, Stop>
     requires named { HasNamedLocation asked.task }
-    ensures treated { IfOk result (λ refused. (line : List ℕ) → kept.now ≡ kept_of line
+    ensures treated { IfOk result (λ tally. (line : List ℕ) → kept.now ≡ kept_of line
         → Treats asked.entry.options W.contents W.has_failed E.contents E.has_failed
-        (task_of asked.entry.task) number line refused
+        (task_of asked.entry.task) number line tally
         output.old output.new faults.old faults.new) }
     ensures stopped { IfErr result (λ why. (line : List ℕ) → kept.now ≡ kept_of line
         → StopsEnding asked.entry.options W.contents W.has_failed E.contents E.has_failed
@@ -39,13 +40,19 @@ pub(crate) fn treat<W: Output, E: Writer>(
         output.old output.new faults.old faults.new why) }
 {
     match answer(asked, number, kept, memory, output)? {
-        None => {
+        Answer::Written(selected) => {
             flush(asked.options.line_buffered, output)?;
-            Ok(false)
+            Ok(Tally {
+                refused: false,
+                selected,
+            })
         }
-        Some(defect) => {
+        Answer::Refused(defect) => {
             refuse(asked, number, kept, defect, faults)?;
-            Ok(true)
+            Ok(Tally {
+                refused: true,
+                selected: false,
+            })
         }
     }
 }

@@ -4,16 +4,16 @@ ghost use Rattle.std.specs.Prelude.{◌≡◌, ◌++◌, IfErr, IfOk, OnOk, code
 ghost use Rattle.std.specs.Fmt.{decimal};
 ghost use Rattle.jp_tree.specs.Views.{query_of};
 ghost use Rattle.jp_select.specs.Steps.{Takes};
-ghost use Rattle.jp_evaluate.specs.Nodelist.{nodelist};
+ghost use Rattle.jp_evaluate.specs.Nodelist.{has_node, nodelist};
 ghost use Rattle.jp_evaluate.specs.Stopping.{StopsSpent};
 ghost use Rattle.jp_command.specs.Found.{found_nodes};
 ghost use Rattle.jp_command.specs.Output.{StopsWriting, WritesAll};
 ghost use Rattle.jp_lines.specs.Outcome.{lead_of};
 ghost use Rattle.jp_lines.specs.Private.Limits.{IsAllowed, WritesOrGivesUp, stop_of};
-ghost use Rattle.jp_lines.specs.Task.{nodes_output, written_for};
+ghost use Rattle.jp_lines.specs.Task.{nodes_output, selects, written_for};
 ghost use Rattle.jp_lines.specs.Views.{task_of};
 
-use crate::answer::{Asked, Memory};
+use crate::answer::{Answer, Asked, Memory};
 use crate::count::count_selected;
 use crate::defect::Defect;
 use crate::options::Wanted;
@@ -35,8 +35,9 @@ pub(crate) fn write_for<'d: 'q, 'q, V: Selectable + 'd, W: Writer>(
     root: V,
     memory: &mut Memory,
     output: &mut W,
-) -> Result<Option<Defect>, Fault>
+) -> Result<Answer, Fault>
     ensures ok { IfOk result (WritesOrGivesUp W.contents W.has_failed asked.entry.options.limit
+        (selects (task_of asked.entry.task) (V.meaning root))
         (written_for (task_of asked.entry.task) (lead_of asked.entry.options.numbered number)
         line.now (V.meaning root)) output.old output.new) }
     ensures stopped { IfErr result (StopsWriting W.contents W.has_failed output.old output.new
@@ -60,8 +61,9 @@ fn write_wanted<'d: 'q, 'q, V: Selectable + 'd, W: Writer>(
     root: V,
     spare: &mut Spare,
     output: &mut W,
-) -> Result<Option<Defect>, Fault>
+) -> Result<Answer, Fault>
     ensures ok { IfOk result (WritesOrGivesUp W.contents W.has_failed asked.entry.options.limit
+        (has_node (nodelist (query_of selection.entry.query.now.query) (V.meaning root)))
         (nodes_output selection.entry.wanted lead.now
         (nodelist (query_of selection.entry.query.now.query) (V.meaning root))) output.old output.new) }
     ensures stopped { IfErr result (StopsWriting W.contents W.has_failed output.old output.new
@@ -70,7 +72,7 @@ fn write_wanted<'d: 'q, 'q, V: Selectable + 'd, W: Writer>(
 {
     match (selection.wanted, asked.options.limit) {
         (Wanted::Nodes(form), None) => {
-            write_selected(
+            let selected = write_selected(
                 asked.alloc,
                 form,
                 lead,
@@ -79,7 +81,7 @@ fn write_wanted<'d: 'q, 'q, V: Selectable + 'd, W: Writer>(
                 spare,
                 output,
             )?;
-            Ok(None)
+            Ok(Answer::Written(selected))
         }
         (_, limit) => write_whole(
             asked,
@@ -103,9 +105,10 @@ fn write_whole<'d: 'q, 'q, V: Selectable + 'd, W: Writer>(
     root: V,
     spare: &mut Spare,
     output: &mut W,
-) -> Result<Option<Defect>, Fault>
+) -> Result<Answer, Fault>
     requires { IsAllowed asked.options.limit allowed }
     ensures ok { IfOk result (WritesOrGivesUp W.contents W.has_failed asked.entry.options.limit
+        (has_node (nodelist (query_of selection.entry.query.now.query) (V.meaning root)))
         (nodes_output selection.entry.wanted lead.now
         (nodelist (query_of selection.entry.query.now.query) (V.meaning root))) output.old output.new) }
     ensures stopped { IfErr result (StopsWriting W.contents W.has_failed output.old output.new
@@ -114,9 +117,9 @@ fn write_whole<'d: 'q, 'q, V: Selectable + 'd, W: Writer>(
 {
     let mut steps = allowed;
     match make_wanted(asked.alloc, selection, lead, root, spare, &mut steps) {
-        Ok(()) => {
+        Ok(selected) => {
             write_text(spare.line.as_str(), output)?;
-            Ok(None)
+            Ok(Answer::Written(selected))
         }
         Err(fault) => stop_of(fault, allowed.left() - steps.left()),
     }
@@ -134,16 +137,17 @@ fn allowed_by(limit: Option<u64>) -> Steps
 
 /// What an evaluation that was given up after so many steps means for the line: a defect, or that
 /// memory ran out.
-fn stop_of(fault: EvaluationFault, made: u64) -> Result<Option<Defect>, Fault>
+fn stop_of(fault: EvaluationFault, made: u64) -> Result<Answer, Fault>
     ensures { result ≡ stop_of fault made }
 {
     match fault {
         EvaluationFault::NoMemory => Err(Fault::NoMemory),
-        EvaluationFault::StepsUsedUp => Ok(Some(Defect::StepsUsedUp(made))),
+        EvaluationFault::StepsUsedUp => Ok(Answer::Refused(Defect::StepsUsedUp(made))),
     }
 }
 
-/// Makes `spare.line` what is asked of the document whose value is the root.
+/// Makes `spare.line` what is asked of the document whose value is the root, and answers whether
+/// something in it is selected.
 fn make_wanted<'d: 'q, 'q, V: Selectable + 'd>(
     alloc: Global,
     selection: Selection<'q>,
@@ -151,27 +155,39 @@ fn make_wanted<'d: 'q, 'q, V: Selectable + 'd>(
     root: V,
     spare: &mut Spare,
     steps: &mut Steps,
-) -> Result<(), EvaluationFault>
+) -> Result<bool, EvaluationFault>
     ensures made { OnOk result (string_bytes spare.new.line ≡ nodes_output selection.entry.wanted
         lead.now (nodelist (query_of selection.entry.query.now.query) (V.meaning root))) }
+    ensures some { IfOk result (λ some. some
+        ≡ has_node (nodelist (query_of selection.entry.query.now.query) (V.meaning root))) }
     ensures takes { Takes steps.old steps.new }
     ensures stopped { StopsSpent result steps.new }
 {
     let patterns = &mut spare.patterns;
     match selection.wanted {
         Wanted::Nodes(form) => {
-            spare.line = selected_lines(alloc, form, lead, root, selection.query, patterns, steps)?;
+            spare.line = selected_lines(
+                alloc,
+                form,
+                lead,
+                None,
+                root,
+                selection.query,
+                patterns,
+                steps,
+            )?;
+            Ok(!spare.line.is_empty())
         }
         Wanted::Count => {
             let count = count_selected(alloc, root, selection.query, patterns, steps)?;
             push_count(lead, count, &mut spare.line)?;
+            Ok(count != 0)
         }
     }
-    Ok(())
 }
 
 /// Writes what is asked of a document in which the query selects the value at the location alone, or
-/// nothing where there is none.
+/// nothing where there is none, and answers whether there is one.
 pub(crate) fn write_wanted_at<V: Selectable, W: Writer>(
     asked: Asked<'_>,
     wanted: Wanted,
@@ -180,7 +196,8 @@ pub(crate) fn write_wanted_at<V: Selectable, W: Writer>(
     value: Option<V>,
     memory: &mut Memory,
     output: &mut W,
-) -> Result<(), Fault>
+) -> Result<bool, Fault>
+    ensures some { IfOk result (λ some. some ≡ has_node (found_nodes V.meaning location.now value)) }
     ensures ok { OnOk result (WritesAll W.contents W.has_failed output.old output.new
         (nodes_output wanted.entry (lead_of asked.entry.options.numbered number)
         (found_nodes V.meaning location.now value))) }
@@ -192,12 +209,14 @@ pub(crate) fn write_wanted_at<V: Selectable, W: Writer>(
     let line = &mut memory.spare.line;
     set_lead(asked.options.numbered, number, lead)?;
     let lead = lead.as_str();
+    let selected = value.is_some();
     match wanted {
         Wanted::Nodes(form) => {
-            write_found(asked.alloc, form, lead, location, value, line, output)
+            write_found(asked.alloc, form, lead, location, value, line, output)?;
         }
-        Wanted::Count => write_count(lead, u64::from(value.is_some()), line, output),
+        Wanted::Count => write_count(lead, u64::from(selected), line, output)?,
     }
+    Ok(selected)
 }
 
 /// Makes `lead` what each line of output begins with.

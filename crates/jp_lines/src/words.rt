@@ -8,7 +8,7 @@ ghost use Rattle.clap.specs.declared.builder.command.Command.TheViews.{out-Comma
 ghost use Rattle.clap.specs.declared.error.kind.ErrorKind.TheVariants.{OutOfMemory};
 ghost use Rattle.jp_lines.specs.CommandLine.{asked, asked_by, jp_lines, lines_app};
 ghost use Rattle.jp_lines.specs.CommandLine.{limit_asked, options_asked, request_by, wanted_called};
-ghost use Rattle.jp_lines.specs.CommandLine.{with_limit, with_lines};
+ghost use Rattle.jp_lines.specs.CommandLine.{with_limit, with_line_flags, with_lines};
 ghost use Rattle.jp_lines.specs.Views.{request_of};
 
 use crate::options::{Options, Wanted};
@@ -32,7 +32,8 @@ A refused query is explained, and with --explain a line that is no document, too
 Example: printf '{\"a\":1}\\n{\"a\":2}\\n' | jp-lines eval '$.a'
 
 Statuses: 0 done, 1 query refused, 2 usage or help, 3 some line refused,
-4 want of memory, 5 read or write fault";
+4 want of memory, 5 read or write fault,
+6 with --exit-status: done, and nothing selected";
 
 const EVAL: CommandHelp = CommandHelp {
     about: "Writes each selected node's value",
@@ -97,6 +98,15 @@ fn lines_command<'w>(
     ensures local { IfOk result (λ command. (out-Command command).has_globals ≡ false) }
 {
     let command = query_command(alloc, name, help)?;
+    with_line_flags(alloc, command)
+}
+
+/// The command with the flags and the option of a run over lines.
+fn with_line_flags<'w>(alloc: Global, command: Command<'w>) -> Result<Command<'w>, AllocError>
+    ensures shape { IfOk result (λ more. app_of more ≡ with_line_flags (app_of command.entry)) }
+    ensures local { IfOk result (λ more.
+        (out-Command more).has_globals ≡ (out-Command command.entry).has_globals) }
+{
     let command = with_flag(
         alloc,
         command,
@@ -120,6 +130,12 @@ fn lines_command<'w>(
         command,
         "explain",
         "Tells why a line is no document, and where",
+    )?;
+    let command = with_flag(
+        alloc,
+        command,
+        "exit-status",
+        "Ends with status 6 where nothing is selected in any document",
     )?;
     with_limit(alloc, command)
 }
@@ -181,6 +197,7 @@ fn options_asked(found: &ArgMatches) -> Options
         keep_going: is_set(found, "keep-going"),
         line_buffered: is_set(found, "line-buffered"),
         explaining: is_set(found, "explain"),
+        exit_status: is_set(found, "exit-status"),
         limit: limit_asked(found),
     }
 }

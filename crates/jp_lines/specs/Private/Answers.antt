@@ -1,5 +1,5 @@
 -- What the answer to one line says. The clauses of `answer` cite it.
-use Rattle.std.specs.Prelude.{◌≡◌, ◌⊎◌, ℕ, Bool, true, List, Option, Some, None, Result, Ok}
+use Rattle.std.specs.Prelude.{◌≡◌, ◌⊎◌, ℕ, Bool, true, List, Option, Result, Ok}
 use Rattle.std.specs.Prelude.{Err, IfSome, map}
 use Rattle.jp_document.specs.Location.{step_of}
 use Rattle.jp_document.specs.declared.fault.DocumentFault.{DocumentFault}
@@ -11,16 +11,18 @@ use Rattle.jp_command.specs.declared.fault.Fault.{Fault}
 use Rattle.jp_command.specs.declared.fault.Fault.TheVariants.{NoMemory, Write}
 use Rattle.jp_lines.specs.Outcome.{Answered, ComesTo, IsDefective}
 use Rattle.jp_lines.specs.Task.{Task}
-use Rattle.jp_lines.specs.declared.defect.Defect.{Defect}
+use Rattle.jp_lines.specs.declared.answer.Answer.{Answer}
+use Rattle.jp_lines.specs.declared.answer.Answer.TheVariants as answer
+use Rattle.jp_lines.specs.declared.answer.Answer.TheVariants.{Written}
 use Rattle.jp_lines.specs.declared.defect.Defect.TheVariants.{Document}
 use Rattle.jp_lines.specs.declared.options.Options.{Options}
 use Rattle.jp_lines.specs.declared.task.Task as coded
 use Rattle.jp_lines.specs.declared.task.Task.TheVariants as tasks
 
 -- the defect of a line whose bytes have that fault: want of memory is none, and a fault of the run
-abbrev pub defect_of : DocumentFault → Result (Option Defect) Fault
+abbrev pub defect_of : DocumentFault → Result Answer Fault
 defect_of document.NoMemory = Err NoMemory
-defect_of fault = Ok (Some (Document fault))
+defect_of fault = Ok (answer.Refused (Document fault))
 
 -- the location of a selection is the one that its query names, if it is any
 abbrev pub HasNamedLocation : coded.Task → Type 0
@@ -30,21 +32,22 @@ HasNamedLocation (tasks.Select selection) = IfSome selection.location
 -- o and p are the output before and after
 module _ {W : Type 0} (contents : W → Option (List ℕ)) (has_failed : W → Bool) (options : Options)
     (task : Task) (number : ℕ) (line : List ℕ) (o p : W) where
-  -- all that is to be written of the line is written
-  pub record AnswersLine : Type 0 where
+  -- all that is to be written of the line is written, in which something is selected or not
+  pub record AnswersLine (selected : Bool) : Type 0 where
     pub output : List ℕ
-    pub comes : ComesTo options task number line (Answered output)
+    pub comes : ComesTo options task number line (Answered selected output)
     pub writes : WritesAll contents has_failed o p output
 
   -- a prefix of it is
   pub record AnswersInPart : Type 0 where
+    pub selected : Bool
     pub output : List ℕ
-    pub comes : ComesTo options task number line (Answered output)
+    pub comes : ComesTo options task number line (Answered selected output)
     pub writes : AppendsPrefix (contents o) (contents p) output
 
-  abbrev pub AnswersOrRefuses : Option Defect → Type 0
-  AnswersOrRefuses None = AnswersLine
-  AnswersOrRefuses (Some defect) =
+  abbrev pub AnswersOrRefuses : Answer → Type 0
+  AnswersOrRefuses (Written selected) = AnswersLine selected
+  AnswersOrRefuses (answer.Refused defect) =
       IsDefective options line defect × (p ≡ o)
 
   abbrev pub StopsAnswering : Fault → Type 0

@@ -7,6 +7,7 @@ use Rattle.jp_lines.specs.Run.{FailsAtRead, GoesToEnd, StopsAtLine}
 use Rattle.jp_lines.specs.declared.options.Options.{Options}
 use Rattle.jp_lines.specs.declared.stop.Stop.{Stop}
 use Rattle.jp_lines.specs.declared.stop.Stop.TheVariants.{Run, Line}
+use Rattle.jp_lines.specs.declared.tally.Tally.{Tally}
 
 -- i and j are the input before and after
 module _ (profile : Profile) (options : Options) {R W E : Type 0}
@@ -18,10 +19,10 @@ module _ (profile : Profile) (options : Options) {R W E : Type 0}
       reports_failed
 
   -- as a run does, but it refuses no query, and where memory ran out it stopped at a line
-  abbrev pub RunsAsked : Request → R → R → W → W → E → E → Result Bool Stop → Type 0
-  RunsAsked request i j o p u v (Ok refused) =
+  abbrev pub RunsAsked : Request → R → R → W → W → E → E → Result Tally Stop → Type 0
+  RunsAsked request i j o p u v (Ok tally) =
       GoesToEnd profile options remaining has_failed read_gives contents writes_failed reports
-      reports_failed request i j o p u v refused
+      reports_failed request i j o p u v tally
   RunsAsked request i j o p u v (Err (Line r)) = Stops request i j o p u v (Line r)
   RunsAsked request i j o p u v (Err (Run NoMemory)) = Stops request i j o p u v (Run NoMemory)
   RunsAsked request i j o p u v (Err (Run Read)) =

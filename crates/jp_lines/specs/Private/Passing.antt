@@ -4,7 +4,7 @@ use Rattle.std.specs.Prelude.{length, take, Option, not, ◌==◌}
 use Rattle.std.specs.List.{flat_map, list_all}
 use Rattle.jp_command.specs.Limits.{document_limit}
 use Rattle.jp_lines.specs.Lines.{lines_of_input, newline}
-use Rattle.jp_lines.specs.Outcome.{LineOutcome, some_refused}
+use Rattle.jp_lines.specs.Outcome.{LineOutcome, some_refused, some_selected}
 use Rattle.jp_lines.specs.Run.{Goes, StopsAmong}
 use Rattle.jp_lines.specs.Task.{Task}
 use Rattle.jp_lines.specs.declared.options.Options.{Options}
@@ -19,12 +19,13 @@ kept_of line = take (suc document_limit) line
 abbrev pub is_in_line : List ℕ → Bool
 is_in_line bytes = list_all (λ byte. not (byte == newline)) bytes
 
--- where a run stands: the number of the line that has begun, what it has so far, and whether a line
--- before it is refused
+-- where a run stands: the number of the line that has begun, what it has so far, whether a line
+-- before it is refused, and whether something is selected in one
 pub record Standing : Type 0 where
   pub number : ℕ
   pub line : List ℕ
   pub refused : Bool
+  pub selected : Bool
 
 -- the lines, each with the newline that ends it
 abbrev pub ended : List (List ℕ) → List ℕ
@@ -35,7 +36,8 @@ abbrev pub standing : Progress → List ℕ → Standing
 standing progress line = record {
   number = progress.number;
   line = line;
-  refused = progress.refused;
+  refused = progress.tally.refused;
+  selected = progress.tally.selected;
 }
 
 -- it is what is kept of this line, in which no newline stands
@@ -52,6 +54,7 @@ module _ (options : Options) {W E : Type 0} (contents : W → Option (List ℕ))
         o p u v
     pub number : t.number ≡ s.number + length lines
     pub refused : t.refused ≡ s.refused || some_refused outcomes
+    pub selected : t.selected ≡ s.selected || some_selected outcomes
 
   -- more bytes of the input came, and the lines that ended in them were gone over
   pub record Passes (bytes : List ℕ) (s t : Standing) (o p : W) (u v : E) : Type 0 where

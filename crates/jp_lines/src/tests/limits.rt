@@ -143,6 +143,7 @@ fn tells_how_many_steps_were_made(rt: HostRuntime) -> Result<(), AllocError> {
         keep_going: false,
         line_buffered: false,
         explaining: false,
+        exit_status: false,
         limit: Some(7),
     };
     let mut output = Narrow::new(rt.alloc(), usize::MAX);

@@ -362,3 +362,52 @@ fn writes_no_more_faults_after_one_that_failed(rt: HostRuntime) -> Result<(), Al
     assert!(rt; faults.taken.as_slice() == "line".as_bytes());
     Ok(())
 }
+
+#[test]
+fn tells_by_its_status_that_nothing_is_selected(rt: HostRuntime) -> Result<(), AllocError> {
+    let refused = "line 1: document refused: NotJson\n";
+    let runs: [(&[&str], &str, Ended<'_>); 14] = [
+        (&["eval", "$.a"], "{\"b\":1}\n[]\n", (6, "", "", 1)),
+        (&["paths", "$..a"], "{\"b\":1}\n[]\n", (6, "", "", 1)),
+        (&["count", "$.a"], "{\"b\":1}\n[]\n", (6, "0\n0\n", "", 1)),
+        (&["count", "$..a"], "{\"b\":1}\n", (6, "0\n", "", 1)),
+        (&["eval", "$"], "", (6, "", "", 1)),
+        (&["eval", "$..*"], "\n \r\n\t", (6, "", "", 1)),
+        (
+            &["eval", "$.a"],
+            "[]\n\n{\"a\":null}\n[]",
+            (0, "null\n", "", 1),
+        ),
+        (
+            &["both", "--number", "$[?@>6]"],
+            "[]\n[7]\n{}\n",
+            (0, "2\t$[0]\t7\n", "", 1),
+        ),
+        (&["count", "$..a"], "[]\n{\"a\":1}", (0, "0\n1\n", "", 1)),
+        (&["eval", "--limit", "9", "$.*"], "[]\n{}\n", (6, "", "", 1)),
+        (
+            &["eval", "--limit", "9", "$.*"],
+            "[1]\n{}\n",
+            (0, "1\n", "", 1),
+        ),
+        (
+            &["eval", "--keep-going", "$.a"],
+            "x\n{}",
+            (3, "", refused, 1),
+        ),
+        (&["eval", "$.a"], "x\n{\"a\":1}", (3, "", refused, 1)),
+        (&["eval", "$[1]"], "[]\n", (6, "", "", 1)),
+    ];
+    for (words, lines, ended) in runs {
+        let mut line = Vec::new(rt.alloc());
+        line.extend_from_slice(&["jp-lines"])?;
+        line.extend_from_slice(words)?;
+        line.push("--exit-status")?;
+        assert_ends(&rt, rt.alloc(), line.as_slice(), lines, false, ended)?;
+    }
+    let fails = ["jp-lines", "eval", "--exit-status", "$.a"];
+    let told = (5, "", "read fault\n", 1);
+    assert_ends(&rt, rt.alloc(), &fails, "{}\n", true, told)?;
+    let plain = ["jp-lines", "eval", "$.a"];
+    assert_ends(&rt, rt.alloc(), &plain, "{}\n", false, (0, "", "", 1))
+}

@@ -18,6 +18,7 @@ const PLAIN: Options = Options {
     keep_going: false,
     line_buffered: false,
     explaining: false,
+    exit_status: false,
     limit: None,
 };
 
@@ -96,7 +97,7 @@ fn assert_says(
         &mut Device::new(&mut faults),
     );
     let said = match run {
-        Ok(refused) => format!(in alloc; "{refused}")?,
+        Ok(tally) => format!(in alloc; "{} {}", tally.refused, tally.selected)?,
         Err(stop) => format!(in alloc; "{stop}")?,
     };
     assert_eq!(rt; said.as_str(), answer);
@@ -126,14 +127,14 @@ fn goes_on_or_stops_after_a_line_that_is_no_document(rt: HostRuntime) -> Result<
             alloc,
             NUMBERED,
             whole(FIVE, size),
-            ("true", values, TOLD, 3),
+            ("true true", values, TOLD, 3),
         )?;
         assert_says(
             &rt,
             alloc,
             COUNTED,
             whole(FIVE, size),
-            ("true", "1\n2\n", TOLD, 0),
+            ("true true", "1\n2\n", TOLD, 0),
         )?;
     }
     Ok(())
@@ -147,7 +148,7 @@ fn writes_nothing_of_lines_without_documents(rt: HostRuntime) -> Result<(), Allo
             rt.alloc(),
             NUMBERED,
             whole(lines, 3),
-            ("false", "", "", flushes),
+            ("false false", "", "", flushes),
         )?;
     }
     Ok(())
@@ -271,7 +272,13 @@ fn goes_on_where_a_refusal_cannot_be_told(rt: HostRuntime) -> Result<(), AllocEr
         told_room: 4,
         ..whole("x\n{\"a\":1}\nx\n", 100)
     };
-    assert_says(&rt, rt.alloc(), COUNTED, lines, ("true", "1\n", "line", 0))
+    assert_says(
+        &rt,
+        rt.alloc(),
+        COUNTED,
+        lines,
+        ("true true", "1\n", "line", 0),
+    )
 }
 
 #[test]

@@ -36,7 +36,7 @@ loop-init g c = record {
   passes = passes-kept c.args.asked.options g.W.Writer.contents g.W.Writer.has_failed g.E.Writer.contents
       g.E.Writer.has_failed (task_of c.args.asked.task)
       [] at_start (standing c.new-progress.result []) _ _ c.new-progress.ensures.number
-      c.new-progress.ensures.refused refl;
+      c.new-progress.ensures.refused c.new-progress.ensures.selected refl;
   room = c.in_ok-chunk.ensures;
 }
 
@@ -87,7 +87,7 @@ returns-then-count-eq0 g c = λ profile request asked.
     g.R.Source.read_gives g.W.Writer.contents g.W.Writer.has_failed g.E.Writer.contents
     g.E.Writer.has_failed (task_of c.args.asked.task) request asked _ _ r.bytes (standing c.loop.progress r.line)
     (standing c.end_line.new.progress []) _ _ _ _ _ _ reads r.passes r.keeps.0
-    (c.in_ok-end_line.ensures.ended r.line r.keeps).over
+    (c.in_ok-end_line.ensures.ended r.line r.keeps).over _ refl refl
 
 pub returns-in_err-pass : goal.returns-in_err-pass
 returns-in_err-pass g c = λ profile request asked.

@@ -14,46 +14,46 @@ returns-in_err-answer-clause-stopped g c =
     c.args.number c.args.kept.now line is c.in_err-answer.field-0.0 _ _ _
     c.in_err-answer.ensures.stopped)
 
-pub returns-in_err-flush-in-None-clause-stopped : goal.returns-in_err-flush-in-None-clause-stopped
-returns-in_err-flush-in-None-clause-stopped g c =
+pub returns-in_err-flush-in-Written-clause-stopped : goal.returns-in_err-flush-in-Written-clause-stopped
+returns-in_err-flush-in-Written-clause-stopped g c =
     let task = task_of c.args.asked.task in
-    err-is c.from_residual-in_err-flush-in-None.result (stop.Run c.in_err-flush-in-None.field-0.0) _
-    c.from_residual-in_err-flush-in-None.ensures.1
+    err-is c.from_residual-in_err-flush-in-Written.result (stop.Run c.in_err-flush-in-Written.field-0.0) _
+    c.from_residual-in_err-flush-in-Written.ensures.1
     (λ line is. subst
     (λ f. StopsEnding c.args.asked.options g.W.Writer.contents g.W.Writer.has_failed
     g.E.Writer.contents g.E.Writer.has_failed task c.args.number line c.args.output.now
     c.flush.new.output c.args.faults.now c.args.faults.now (stop.Run f))
-    (sym c.in_err-flush-in-None.ensures.write)
+    (sym c.in_err-flush-in-Written.ensures.write)
     (stops-flushing c.args.asked.options g.W.Writer.contents g.W.Writer.has_failed
     g.E.Writer.contents g.E.Writer.has_failed task c.args.number c.args.kept.now line is
-    _ c.answer.new.output _ _ (rw c.in-None.is at c.in_ok-answer.ensures.answers)
-    c.flush.ensures.kept c.in_err-flush-in-None.ensures.fails))
+    _ c.answer.new.output _ _ (rw c.in-Written.is at c.in_ok-answer.ensures.answers)
+    c.flush.ensures.kept c.in_err-flush-in-Written.ensures.fails))
 
-pub returns-in_err-refuse-in-Some-clause-stopped :
-    goal.returns-in_err-refuse-in-Some-clause-stopped
-returns-in_err-refuse-in-Some-clause-stopped g c =
-    let answers = rw c.in-Some.is at c.in_ok-answer.ensures.answers in
-    err-is c.from_residual-in_err-refuse-in-Some.result c.in_err-refuse-in-Some.field-0.0 _
-    c.from_residual-in_err-refuse-in-Some.ensures.1
+pub returns-in_err-refuse-in-Refused-clause-stopped :
+    goal.returns-in_err-refuse-in-Refused-clause-stopped
+returns-in_err-refuse-in-Refused-clause-stopped g c =
+    let answers = rw c.in-Refused.is at c.in_ok-answer.ensures.answers in
+    err-is c.from_residual-in_err-refuse-in-Refused.result c.in_err-refuse-in-Refused.field-0.0 _
+    c.from_residual-in_err-refuse-in-Refused.ensures.1
     (λ line is. stops-refusing c.args.asked.options g.W.Writer.contents g.W.Writer.has_failed
     g.E.Writer.contents g.E.Writer.has_failed (task_of c.args.asked.task)
-    c.args.number c.args.kept.now line is c.in-Some.defect _ _ _ _
-    c.in_err-refuse-in-Some.field-0.0 answers.0 answers.1 c.in_err-refuse-in-Some.ensures.silent
-    c.in_err-refuse-in-Some.ensures.stopped)
+    c.args.number c.args.kept.now line is c.in-Refused.defect _ _ _ _
+    c.in_err-refuse-in-Refused.field-0.0 answers.0 answers.1 c.in_err-refuse-in-Refused.ensures.silent
+    c.in_err-refuse-in-Refused.ensures.stopped)
 
-pub returns-in_ok-flush-in-None-clause-treated : goal.returns-in_ok-flush-in-None-clause-treated
-returns-in_ok-flush-in-None-clause-treated g c = λ line is.
+pub returns-in_ok-flush-in-Written-clause-treated : goal.returns-in_ok-flush-in-Written-clause-treated
+returns-in_ok-flush-in-Written-clause-treated g c = λ line is.
     treats-answered c.args.asked.options g.W.Writer.contents g.W.Writer.has_failed
     g.E.Writer.contents g.E.Writer.has_failed (task_of c.args.asked.task)
     c.args.number c.args.kept.now line is _ c.answer.new.output _ _
-    (rw c.in-None.is at c.in_ok-answer.ensures.answers) c.flush.ensures.kept
-    c.in_ok-flush-in-None.ensures.works
+    (rw c.in-Written.is at c.in_ok-answer.ensures.answers) c.flush.ensures.kept
+    c.in_ok-flush-in-Written.ensures.works
 
-pub returns-in_ok-refuse-in-Some-clause-treated : goal.returns-in_ok-refuse-in-Some-clause-treated
-returns-in_ok-refuse-in-Some-clause-treated g c = λ line is.
-    let answers = rw c.in-Some.is at c.in_ok-answer.ensures.answers in
-    let told = c.in_ok-refuse-in-Some.ensures.told in
+pub returns-in_ok-refuse-in-Refused-clause-treated : goal.returns-in_ok-refuse-in-Refused-clause-treated
+returns-in_ok-refuse-in-Refused-clause-treated g c = λ line is.
+    let answers = rw c.in-Refused.is at c.in_ok-answer.ensures.answers in
+    let told = c.in_ok-refuse-in-Refused.ensures.told in
     treats-refused c.args.asked.options g.W.Writer.contents g.W.Writer.has_failed
     g.E.Writer.contents g.E.Writer.has_failed (task_of c.args.asked.task)
-    c.args.number c.args.kept.now line is c.in-Some.defect told.0 _ _ _ _ answers.0 told.1 answers.1
-    told.2 c.in_ok-refuse-in-Some.ensures.going
+    c.args.number c.args.kept.now line is c.in-Refused.defect told.0 _ _ _ _ answers.0 told.1 answers.1
+    told.2 c.in_ok-refuse-in-Refused.ensures.going
