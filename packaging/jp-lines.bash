@@ -17,7 +17,7 @@ _jp_lines() {
 _jp_lines_flags() {
     local flag before=" ${COMP_WORDS[*]:2:COMP_CWORD-2} "
     [[ $before != *" -- "* ]] || return 0
-    for flag in --extended --number --keep-going --line-buffered --explain --exit-status --limit; do
+    for flag in --extended --number --first --keep-going --line-buffered --explain --exit-status --limit; do
         [[ $before == *" $flag "* ]] || echo "$flag"
     done
 }

@@ -18,6 +18,7 @@ use Rattle.jp_lines.specs.Outcome.{some_refused}
 use Rattle.jp_lines.specs.Outcome.{written_of, written_of_all}
 use Rattle.jp_lines.specs.Reads.{ReadsToEnd}
 use Rattle.jp_lines.specs.Task.{Select, Task, nodes_output}
+use Rattle.jp_lines.specs.declared.options.Extent.TheVariants.{All}
 use Rattle.jp_lines.specs.declared.options.Options.{Options}
 use Rattle.jp_lines.specs.declared.options.Wanted.TheVariants.{Nodes}
 use Rattle.jp_lines.proofs.Outcomes.{heads, tails}
@@ -64,7 +65,7 @@ module _ (profile : Profile) {R W E : Type 0} (remaining : R → Option (List �
   outcome-is : (form : Form) (options : Options) (q : QueryTree) (text bytes : List ℕ) (i j : R)
       (x : LineOutcome) → options.numbered ≡ false
       → IsAsked profile text q → ReadsToEnd remaining has_failed read_gives i j bytes
-      → is_blank_line bytes ≡ false → is_refused x ≡ false → ComesTo options (Select (Nodes form) q) 1 bytes x
+      → is_blank_line bytes ≡ false → is_refused x ≡ false → ComesTo options (Select (Nodes form) All q) 1 bytes x
       → Output form text i j (written_of x)
   outcome-is form options q text bytes i j x numbered asked reads some unrefused (blank few is) = cc
   outcome-is form options q text bytes i j x numbered asked reads some unrefused
@@ -92,7 +93,7 @@ module _ (profile : Profile) {R W E : Type 0} (remaining : R → Option (List �
       reports reports_failed
   one_line form options text bytes i j o p u v tally numbered works known single some runs =
       let q = runs.asked.0 in
-      let task = Select (Nodes form) q in
+      let task = Select (Nodes form) All q in
       let same = consumed-all (remaining i) (remaining j) runs.bytes bytes runs.reads.came
       runs.reads.ended known in
       let come = subst (λ b. ComeTo options task 1 (lines_of_input b) runs.outcomes) same

@@ -3,9 +3,10 @@ use Rattle.std.proofs.Common.{◌≡◌, [], ◌∷◌, true, false, Some, None,
 use Rattle.clap.proofs.OnLiterals.{clap_on_literals}
 use Rattle.jp_check.specs.declared.profile.Profile.TheVariants.{Standard, Extended}
 use Rattle.jp_command.specs.CommandLine.{query_app}
-use Rattle.jp_command.specs.declared.lines.Form.TheVariants.{Values, Both}
+use Rattle.jp_command.specs.declared.lines.Form.TheVariants.{Values, Paths, Both}
 use Rattle.jp_lines.specs.CommandLine.{asked, jp_lines, lines_app}
 use Rattle.jp_lines.specs.Request.{SelectBy}
+use Rattle.jp_lines.specs.declared.options.Extent.TheVariants.{All, First}
 use Rattle.jp_lines.specs.declared.options.Options.{Options}
 use Rattle.jp_lines.specs.declared.options.Wanted.TheVariants.{Nodes, Count}
 
@@ -17,11 +18,12 @@ plain =
       keep_going = false;
       line_buffered = false;
       explaining = false;
+      exit_status = false;
       limit = None;
     }
 
 values : asked (codes "jp-lines" ∷ codes "eval" ∷ codes "$" ∷ [])
-    ≡ Some (plain, SelectBy (Nodes Values) (codes "$"), Standard)
+    ≡ Some (plain, SelectBy (Nodes Values) All (codes "$"), Standard)
 unfolding clap_on_literals jp_lines lines_app query_app
 values = refl
 
@@ -30,7 +32,7 @@ number_and_buffer :
     ∷ codes "--line-buffered" ∷ [])
     ≡ Some (
       record plain { numbered = true; line_buffered = true },
-      SelectBy (Nodes Both) (codes "$"),
+      SelectBy (Nodes Both) All (codes "$"),
       Standard,
     )
 unfolding clap_on_literals jp_lines lines_app query_app
@@ -39,12 +41,12 @@ number_and_buffer = refl
 going_and_extended :
     asked (codes "jp-lines" ∷ codes "count" ∷ codes "--keep-going" ∷ codes "--extended"
     ∷ codes "$" ∷ [])
-    ≡ Some (record plain { keep_going = true }, SelectBy Count (codes "$"), Extended)
+    ≡ Some (record plain { keep_going = true }, SelectBy Count All (codes "$"), Extended)
 unfolding clap_on_literals jp_lines lines_app query_app
 going_and_extended = refl
 
 explaining : asked (codes "jp-lines" ∷ codes "eval" ∷ codes "$" ∷ codes "--explain" ∷ [])
-    ≡ Some (record plain { explaining = true }, SelectBy (Nodes Values) (codes "$"), Standard)
+    ≡ Some (record plain { explaining = true }, SelectBy (Nodes Values) All (codes "$"), Standard)
 unfolding clap_on_literals jp_lines lines_app query_app
 explaining = refl
 
@@ -64,13 +66,13 @@ subcommand_of_another_program = refl
 
 limit :
     asked (codes "jp-lines" ∷ codes "eval" ∷ codes "--limit" ∷ codes "10000" ∷ codes "$" ∷ [])
-    ≡ Some (record plain { limit = Some 10000 }, SelectBy (Nodes Values) (codes "$"), Standard)
+    ≡ Some (record plain { limit = Some 10000 }, SelectBy (Nodes Values) All (codes "$"), Standard)
 unfolding clap_on_literals jp_lines lines_app query_app
 limit = refl
 
 greatest_limit :
     asked (codes "jp-lines" ∷ codes "count" ∷ codes "$" ∷ codes "--limit=18446744073709551615" ∷ [])
-    ≡ Some (record plain { limit = Some 18446744073709551615 }, SelectBy Count (codes "$"), Standard)
+    ≡ Some (record plain { limit = Some 18446744073709551615 }, SelectBy Count All (codes "$"), Standard)
 unfolding clap_on_literals jp_lines lines_app query_app
 greatest_limit = refl
 
@@ -84,3 +86,13 @@ limit_too_great :
     ∷ codes "$" ∷ []) ≡ None
 unfolding clap_on_literals jp_lines lines_app query_app
 limit_too_great = refl
+
+first_and_status :
+    asked (codes "jp-lines" ∷ codes "paths" ∷ codes "--first" ∷ codes "$" ∷ codes "--exit-status" ∷ [])
+    ≡ Some (
+      record plain { exit_status = true },
+      SelectBy (Nodes Paths) First (codes "$"),
+      Standard,
+    )
+unfolding clap_on_literals jp_lines lines_app query_app
+first_and_status = refl

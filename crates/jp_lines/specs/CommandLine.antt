@@ -16,6 +16,8 @@ use Rattle.jp_check.specs.declared.profile.Profile.{Profile}
 use Rattle.jp_command.specs.CommandLine.{is_set, profile_asked, query_app, with_flag}
 use Rattle.jp_command.specs.declared.lines.Form.TheVariants.{Values, Paths, Both}
 use Rattle.jp_lines.specs.Request.{Request, SelectBy}
+use Rattle.jp_lines.specs.declared.options.Extent.{Extent}
+use Rattle.jp_lines.specs.declared.options.Extent.TheVariants.{All, First}
 use Rattle.jp_lines.specs.declared.options.Options.{Options}
 use Rattle.jp_lines.specs.declared.options.Wanted.{Wanted}
 use Rattle.jp_lines.specs.declared.options.Wanted.TheVariants.{Nodes, Count}
@@ -39,9 +41,9 @@ with_line_flags app = with_limit (with_flag (with_flag (with_flag (with_flag (wi
     (codes "number")) (codes "keep-going")) (codes "line-buffered")) (codes "explain"))
     (codes "exit-status"))
 
--- a subcommand with the query, `--extended` and these
+-- a subcommand with the query, `--extended`, these and `--first`
 unfoldable pub lines_app : Text → App
-lines_app name = with_line_flags (query_app name)
+lines_app name = with_flag (with_line_flags (query_app name)) (codes "first")
 
 -- the command with one such subcommand more
 abbrev pub with_lines : App → Text → App
@@ -81,10 +83,15 @@ options_asked rows = record {
   limit = limit_asked rows;
 }
 
+-- of which nodes it is written: with `--first` of the first alone
+abbrev pub extent_asked : List Row → Extent
+extent_asked rows = if is_set (codes "first") rows then First else All
+
 -- what the subcommand of that name asks for
 abbrev pub request_by : Text → List Row → Option Request
 request_by name rows = option_and_then
-    (λ wanted. option_map (SelectBy wanted) (first_of (codes "QUERY") rows)) (wanted_called name)
+    (λ wanted. option_map (SelectBy wanted (extent_asked rows)) (first_of (codes "QUERY") rows))
+    (wanted_called name)
 
 -- the options, the request and the profile of the subcommand that the words name
 abbrev pub asked_by : Text × List Row → Option (Options × Request × Profile)

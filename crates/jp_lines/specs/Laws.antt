@@ -9,6 +9,7 @@ use Rattle.jp_lines.specs.Lines.{is_blank_line, lines_of_input, newline}
 use Rattle.jp_lines.specs.Request.{SelectBy}
 use Rattle.jp_lines.specs.Run.{RunsLines}
 use Rattle.jp_lines.specs.declared.options.Options.{Options}
+use Rattle.jp_lines.specs.declared.options.Extent.TheVariants.{All}
 use Rattle.jp_lines.specs.declared.options.Wanted.TheVariants.{Nodes}
 use Rattle.jp_lines.specs.declared.tally.Tally.{Tally}
 
@@ -28,6 +29,6 @@ module _ (profile : Profile) {R W E : Type 0} (remaining : R → Option (List �
       (u v : E) (tally : Tally) → options.numbered ≡ false → tally.refused ≡ false
       → remaining i ≡ Some bytes → lines_of_input bytes ≡ bytes ∷ [] → is_blank_line bytes ≡ false
       → RunsLines profile options remaining has_failed read_gives contents writes_failed reports
-      reports_failed (SelectBy (Nodes form) text) i j o p u v (Ok tally)
+      reports_failed (SelectBy (Nodes form) All text) i j o p u v (Ok tally)
       → RunsEval profile remaining has_failed read_gives contents writes_failed form text i j o p
       (Ok (tt {0}))

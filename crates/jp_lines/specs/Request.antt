@@ -5,21 +5,22 @@ use Rattle.jp_command.specs.Run.{IsAsked, RefusesQuery}
 use Rattle.jp_query.specs.declared.refusal.Refusal.{Refusal}
 use Rattle.jp_tree.specs.Tree.{QueryTree}
 use Rattle.jp_lines.specs.Task.{Select, Task}
+use Rattle.jp_lines.specs.declared.options.Extent.{Extent}
 use Rattle.jp_lines.specs.declared.options.Wanted.{Wanted}
 
 pub data Request : Type 0 where
   -- to write what is wanted of the nodes that the query of this text selects
-  SelectBy : Wanted → List ℕ → Request
+  SelectBy : Wanted → Extent → List ℕ → Request
 
 -- the text of its query
 abbrev pub query_text : Request → List ℕ
-query_text (SelectBy wanted text) = text
+query_text (SelectBy wanted extent text) = text
 
 -- the task that it stands for, where its query is accepted
 abbrev pub IsTaskOf : Profile → Request → Task → Type 0
-IsTaskOf profile (SelectBy wanted text) task =
-    (q : QueryTree) × (task ≡ Select wanted q) × IsAsked profile text q
+IsTaskOf profile (SelectBy wanted extent text) task =
+    (q : QueryTree) × (task ≡ Select wanted extent q) × IsAsked profile text q
 
 -- its query is refused with r
 abbrev pub RefusesRequest : Profile → Request → Refusal → Type 0
-RefusesRequest profile (SelectBy wanted text) r = RefusesQuery profile text r
+RefusesRequest profile (SelectBy wanted extent text) r = RefusesQuery profile text r

@@ -1,5 +1,5 @@
 -- What a run does with each document: what is written of it, and whether something in it is selected.
-use Rattle.std.specs.Prelude.{ℕ, Bool, List, ◌++◌, codes, length}
+use Rattle.std.specs.Prelude.{ℕ, Bool, List, ◌++◌, codes, length, take}
 use Rattle.std.specs.Fmt.{decimal}
 use Rattle.std.specs.List.{flat_map}
 use Rattle.jp_command.specs.Lines.{line_behind}
@@ -7,12 +7,19 @@ use Rattle.jp_document.specs.Node.{Node}
 use Rattle.jp_document.specs.Value.{Value}
 use Rattle.jp_evaluate.specs.Nodelist.{has_node, nodelist}
 use Rattle.jp_tree.specs.Tree.{QueryTree}
+use Rattle.jp_lines.specs.declared.options.Extent.{Extent}
+use Rattle.jp_lines.specs.declared.options.Extent.TheVariants.{All, First}
 use Rattle.jp_lines.specs.declared.options.Wanted.{Wanted}
 use Rattle.jp_lines.specs.declared.options.Wanted.TheVariants.{Nodes, Count}
 
 pub data Task : Type 0 where
   -- writes what is wanted of the nodes that the query selects
-  Select : Wanted → QueryTree → Task
+  Select : Wanted → Extent → QueryTree → Task
+
+-- all nodes, or the first alone
+abbrev pub nodes_within : Extent → List Node → List Node
+nodes_within All ns = ns
+nodes_within First ns = take 1 ns
 
 -- what is written of these nodes, behind such a lead: their lines, or how many they are
 abbrev pub nodes_output : Wanted → List ℕ → List Node → List ℕ
@@ -21,8 +28,9 @@ nodes_output Count lead ns = lead ++ decimal (length ns) ++ codes "\n"
 
 -- what is written of the document d, which stands in this line of the input, behind such a lead
 abbrev pub written_for : Task → List ℕ → List ℕ → Value → List ℕ
-written_for (Select wanted q) lead line d = nodes_output wanted lead (nodelist q d)
+written_for (Select wanted extent q) lead line d =
+    nodes_output wanted lead (nodes_within extent (nodelist q d))
 
 -- something is selected in the document d
 abbrev pub selects : Task → Value → Bool
-selects (Select wanted q) d = has_node (nodelist q d)
+selects (Select wanted extent q) d = has_node (nodelist q d)

@@ -10,10 +10,10 @@ use Rattle.jp_lines.specs.declared.task.Task.TheVariants as tasks
 
 -- the task of a selection
 abbrev pub selection_task : selection.Selection → Task
-selection_task selected = Select selected.wanted (query_of selected.query.now.query)
+selection_task selected = Select selected.wanted selected.extent (query_of selected.query.now.query)
 
 abbrev pub task_of : task.Task → Task
 task_of (tasks.Select selected) = selection_task selected
 
 abbrev pub request_of : request.Request → Request
-request_of (requests.SelectBy wanted query) = SelectBy wanted query.now
+request_of (requests.SelectBy wanted extent query) = SelectBy wanted extent query.now

@@ -11,6 +11,14 @@ pub enum Wanted {
     Count,
 }
 
+/// Of which of the selected nodes it is written.
+#[derive(Debug, Clone, Copy, PartialEq, Eq)]
+pub(crate) enum Extent {
+    All,
+    /// The first alone, where the evaluation stops.
+    First,
+}
+
 /// How a run goes over the lines of its input.
 #[derive(Debug, Clone, Copy, PartialEq, Eq)]
 pub struct Options {

@@ -78,9 +78,11 @@ fn run_and_flush<R: Source, W: Output, E: Writer>(
         input.old input.new output.old output.new faults.old faults.new result }
 {
     match request {
-        Request::SelectBy(wanted, query) => {
+        Request::SelectBy(wanted, extent, query) => {
             let query = read_within_limit(alloc, query, profile).map_err(Fault::from)?;
-            let ended = run_selected(alloc, wanted, &query, options, input, output, faults);
+            let ended = run_selected(
+                alloc, wanted, extent, &query, options, input, output, faults,
+            );
             flush_ended(ended, output)
         }
     }
@@ -91,7 +93,7 @@ fn query_text<'w>(request: Request<'w>) -> &'w str
     ensures { result.now ≡ query_text (request_of request.entry) }
 {
     match request {
-        Request::SelectBy(_, query) => query,
+        Request::SelectBy(_, _, query) => query,
     }
 }
 

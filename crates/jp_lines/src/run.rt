@@ -10,9 +10,10 @@ ghost use Rattle.jp_lines.specs.Request.{IsTaskOf, Request, SelectBy};
 ghost use Rattle.jp_lines.specs.Run.{RunsLines};
 ghost use Rattle.jp_lines.specs.Task.{Select};
 ghost use Rattle.jp_lines.specs.Views.{task_of};
+ghost use Rattle.jp_lines.specs.declared.options.Extent.TheVariants as Extent;
 
 use crate::answer::Asked;
-use crate::options::{Options, Wanted};
+use crate::options::{Extent, Options, Wanted};
 use crate::passing::{Progress, end_line, pass};
 use crate::stop::Stop;
 use crate::tally::Tally;
@@ -55,17 +56,27 @@ pub fn run_lines<R: Source, W: Output, E: Writer>(
     faults: &mut E,
 ) -> Result<Tally, Stop>
     ensures { RunsLines profile options R.remaining R.has_failed R.read_gives
-        W.contents W.has_failed E.contents E.has_failed (SelectBy wanted query.now)
+        W.contents W.has_failed E.contents E.has_failed (SelectBy wanted Extent.All query.now)
         input.old input.new output.old output.new faults.old faults.new result }
 {
     let query = read_within_limit(alloc, query, profile).map_err(Fault::from)?;
-    run_selected(alloc, wanted, &query, options, input, output, faults)
+    run_selected(
+        alloc,
+        wanted,
+        Extent::All,
+        &query,
+        options,
+        input,
+        output,
+        faults,
+    )
 }
 
-/// The same of a query that was read.
+/// The same of a query that was read, for all its nodes or the first alone.
 pub(crate) fn run_selected<R: Source, W: Output, E: Writer>(
     alloc: Global,
     wanted: Wanted,
+    extent: Extent,
     query: &Checked,
     options: Options,
     input: &mut R,
@@ -73,7 +84,7 @@ pub(crate) fn run_selected<R: Source, W: Output, E: Writer>(
     faults: &mut E,
 ) -> Result<Tally, Stop>
     ensures { (profile : Profile) (request : Request)
-        → IsTaskOf profile request (Select wanted (query_of query.now.query))
+        → IsTaskOf profile request (Select wanted extent (query_of query.now.query))
         → RunsAsked profile options R.remaining R.has_failed R.read_gives
         W.contents W.has_failed E.contents E.has_failed request
         input.old input.new output.old output.new faults.old faults.new result }
@@ -81,6 +92,7 @@ pub(crate) fn run_selected<R: Source, W: Output, E: Writer>(
     let location = named_location(alloc, query)?;
     let selection = Selection {
         wanted,
+        extent,
         query,
         location: location.as_deref(),
     };

@@ -1,6 +1,6 @@
 //! What a run does with each document.
 
-use crate::options::Wanted;
+use crate::options::{Extent, Wanted};
 use jp_check::Checked;
 use jp_document::Step;
 
@@ -8,7 +8,7 @@ use jp_document::Step;
 #[derive(Clone, Copy)]
 pub(crate) enum Request<'w> {
     /// To write what is wanted of the nodes that the query of this text selects.
-    SelectBy(Wanted, &'w str),
+    SelectBy(Wanted, Extent, &'w str),
 }
 
 /// What a run does with each document.
@@ -21,6 +21,7 @@ pub(crate) enum Task<'q> {
 #[derive(Clone, Copy)]
 pub(crate) struct Selection<'q> {
     pub(crate) wanted: Wanted,
+    pub(crate) extent: Extent,
     pub(crate) query: &'q Checked,
     /// The location that the query names; None where it names none.
     pub(crate) location: Option<&'q [Step<'q>]>,

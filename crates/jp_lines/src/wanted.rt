@@ -9,14 +9,14 @@ ghost use Rattle.jp_evaluate.specs.Stopping.{StopsSpent};
 ghost use Rattle.jp_command.specs.Found.{found_nodes};
 ghost use Rattle.jp_command.specs.Output.{StopsWriting, WritesAll};
 ghost use Rattle.jp_lines.specs.Outcome.{lead_of};
-ghost use Rattle.jp_lines.specs.Private.Limits.{IsAllowed, WritesOrGivesUp, stop_of};
-ghost use Rattle.jp_lines.specs.Task.{nodes_output, selects, written_for};
+ghost use Rattle.jp_lines.specs.Private.Limits.{IsAllowed, WritesOrGivesUp, most_within, stop_of};
+ghost use Rattle.jp_lines.specs.Task.{nodes_output, nodes_within, selects, written_for};
 ghost use Rattle.jp_lines.specs.Views.{task_of};
 
 use crate::answer::{Answer, Asked, Memory};
 use crate::count::count_selected;
 use crate::defect::Defect;
-use crate::options::Wanted;
+use crate::options::{Extent, Wanted};
 use crate::task::{Selection, Task};
 use itoa::Buffer;
 use jp_command::{Fault, Spare, Writer, selected_lines, write_all, write_found, write_selected};
@@ -65,13 +65,15 @@ fn write_wanted<'d: 'q, 'q, V: Selectable + 'd, W: Writer>(
     ensures ok { IfOk result (WritesOrGivesUp W.contents W.has_failed asked.entry.options.limit
         (has_node (nodelist (query_of selection.entry.query.now.query) (V.meaning root)))
         (nodes_output selection.entry.wanted lead.now
-        (nodelist (query_of selection.entry.query.now.query) (V.meaning root))) output.old output.new) }
+        (nodes_within selection.entry.extent
+        (nodelist (query_of selection.entry.query.now.query) (V.meaning root)))) output.old output.new) }
     ensures stopped { IfErr result (StopsWriting W.contents W.has_failed output.old output.new
         (nodes_output selection.entry.wanted lead.now
-        (nodelist (query_of selection.entry.query.now.query) (V.meaning root)))) }
+        (nodes_within selection.entry.extent
+        (nodelist (query_of selection.entry.query.now.query) (V.meaning root))))) }
 {
-    match (selection.wanted, asked.options.limit) {
-        (Wanted::Nodes(form), None) => {
+    match (selection.wanted, selection.extent, asked.options.limit) {
+        (Wanted::Nodes(form), Extent::All, None) => {
             let selected = write_selected(
                 asked.alloc,
                 form,
@@ -83,7 +85,7 @@ fn write_wanted<'d: 'q, 'q, V: Selectable + 'd, W: Writer>(
             )?;
             Ok(Answer::Written(selected))
         }
-        (_, limit) => write_whole(
+        (_, _, limit) => write_whole(
             asked,
             selection,
             lead,
@@ -110,10 +112,12 @@ fn write_whole<'d: 'q, 'q, V: Selectable + 'd, W: Writer>(
     ensures ok { IfOk result (WritesOrGivesUp W.contents W.has_failed asked.entry.options.limit
         (has_node (nodelist (query_of selection.entry.query.now.query) (V.meaning root)))
         (nodes_output selection.entry.wanted lead.now
-        (nodelist (query_of selection.entry.query.now.query) (V.meaning root))) output.old output.new) }
+        (nodes_within selection.entry.extent
+        (nodelist (query_of selection.entry.query.now.query) (V.meaning root)))) output.old output.new) }
     ensures stopped { IfErr result (StopsWriting W.contents W.has_failed output.old output.new
         (nodes_output selection.entry.wanted lead.now
-        (nodelist (query_of selection.entry.query.now.query) (V.meaning root)))) }
+        (nodes_within selection.entry.extent
+        (nodelist (query_of selection.entry.query.now.query) (V.meaning root))))) }
 {
     let mut steps = allowed;
     match make_wanted(asked.alloc, selection, lead, root, spare, &mut steps) {
@@ -122,6 +126,16 @@ fn write_whole<'d: 'q, 'q, V: Selectable + 'd, W: Writer>(
             Ok(Answer::Written(selected))
         }
         Err(fault) => stop_of(fault, allowed.left() - steps.left()),
+    }
+}
+
+/// How many nodes the lines are of at most.
+fn most_within(extent: Extent) -> Option<u64>
+    ensures { result ≡ most_within extent }
+{
+    match extent {
+        Extent::All => None,
+        Extent::First => Some(1),
     }
 }
 
@@ -157,7 +171,8 @@ fn make_wanted<'d: 'q, 'q, V: Selectable + 'd>(
     steps: &mut Steps,
 ) -> Result<bool, EvaluationFault>
     ensures made { OnOk result (string_bytes spare.new.line ≡ nodes_output selection.entry.wanted
-        lead.now (nodelist (query_of selection.entry.query.now.query) (V.meaning root))) }
+        lead.now (nodes_within selection.entry.extent
+        (nodelist (query_of selection.entry.query.now.query) (V.meaning root)))) }
     ensures some { IfOk result (λ some. some
         ≡ has_node (nodelist (query_of selection.entry.query.now.query) (V.meaning root))) }
     ensures takes { Takes steps.old steps.new }
@@ -170,7 +185,7 @@ fn make_wanted<'d: 'q, 'q, V: Selectable + 'd>(
                 alloc,
                 form,
                 lead,
-                None,
+                most_within(selection.extent),
                 root,
                 selection.query,
                 patterns,
@@ -179,7 +194,14 @@ fn make_wanted<'d: 'q, 'q, V: Selectable + 'd>(
             Ok(!spare.line.is_empty())
         }
         Wanted::Count => {
-            let count = count_selected(alloc, root, selection.query, patterns, steps)?;
+            let count = count_selected(
+                alloc,
+                selection.extent,
+                root,
+                selection.query,
+                patterns,
+                steps,
+            )?;
             push_count(lead, count, &mut spare.line)?;
             Ok(count != 0)
         }

@@ -7,11 +7,12 @@ ghost use Rattle.clap.specs.Words.{subcommand_of, subcommand_rows_of};
 ghost use Rattle.clap.specs.declared.builder.command.Command.TheViews.{out-Command};
 ghost use Rattle.clap.specs.declared.error.kind.ErrorKind.TheVariants.{OutOfMemory};
 ghost use Rattle.jp_lines.specs.CommandLine.{asked, asked_by, jp_lines, lines_app};
-ghost use Rattle.jp_lines.specs.CommandLine.{limit_asked, options_asked, request_by, wanted_called};
+ghost use Rattle.jp_lines.specs.CommandLine.{extent_asked, limit_asked, options_asked, request_by};
+ghost use Rattle.jp_lines.specs.CommandLine.{wanted_called};
 ghost use Rattle.jp_lines.specs.CommandLine.{with_limit, with_line_flags, with_lines};
 ghost use Rattle.jp_lines.specs.Views.{request_of};
 
-use crate::options::{Options, Wanted};
+use crate::options::{Extent, Options, Wanted};
 use crate::task::Request;
 use clap::error::ErrorKind;
 use clap::{Arg, ArgAction, ArgMatches, Command, Error, value_parser};
@@ -98,7 +99,13 @@ fn lines_command<'w>(
     ensures local { IfOk result (λ command. (out-Command command).has_globals ≡ false) }
 {
     let command = query_command(alloc, name, help)?;
-    with_line_flags(alloc, command)
+    let command = with_line_flags(alloc, command)?;
+    with_flag(
+        alloc,
+        command,
+        "first",
+        "Goes no further than the first node of each document",
+    )
 }
 
 /// The command with the flags and the option of a run over lines.
@@ -202,13 +209,24 @@ fn options_asked(found: &ArgMatches) -> Options
     }
 }
 
+/// Of which nodes it is written, where the matches of a subcommand say it.
+fn extent_asked(found: &ArgMatches) -> Extent
+    ensures { result ≡ extent_asked (rows_of (found_of found.now)) }
+{
+    if is_set(found, "first") {
+        Extent::First
+    } else {
+        Extent::All
+    }
+}
+
 /// What the subcommand `name` with the matches `found` asks for of each document.
 fn request_by<'w>(name: &str, found: &ArgMatches<'w>) -> Option<Request<'w>>
     ensures { option_map request_of result ≡ request_by name.now (rows_of (found_of found.now)) }
 {
     let wanted = wanted_named(name)?;
     let query = found.get_str("QUERY")?;
-    Some(Request::SelectBy(wanted, query))
+    Some(Request::SelectBy(wanted, extent_asked(found), query))
 }
 
 /// What the subcommand `name` with the matches `found` asks for.

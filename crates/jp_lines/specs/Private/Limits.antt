@@ -1,4 +1,4 @@
--- What a limit of steps allows, and what an evaluation that is given up means for its line. The
+-- What a limit of steps allows, how many nodes are asked for, and what an evaluation that is given up means for its line. The
 -- clauses of `write_wanted` and of what it calls cite it.
 use Rattle.std.specs.Prelude.{◌≡◌, ℕ, Bool, true, false, List, Option, Some, None, Result, Ok, Err}
 use Rattle.jp_select.specs.declared.steps.Steps.{Steps}
@@ -10,11 +10,18 @@ use Rattle.jp_command.specs.declared.fault.Fault.TheVariants.{NoMemory}
 use Rattle.jp_lines.specs.declared.answer.Answer.{Answer}
 use Rattle.jp_lines.specs.declared.answer.Answer.TheVariants.{Refused, Written}
 use Rattle.jp_lines.specs.declared.defect.Defect.TheVariants.{StepsUsedUp}
+use Rattle.jp_lines.specs.declared.options.Extent.{Extent}
+use Rattle.jp_lines.specs.declared.options.Extent.TheVariants.{All, First}
 
 -- one evaluation may make these steps
 abbrev pub IsAllowed : Option ℕ → Steps → Type 0
 IsAllowed (Some limit) s = (s.limited ≡ true) × (s.left ≡ limit)
 IsAllowed None s = s.limited ≡ false
+
+-- how many nodes of an extent there are at most, where that is known
+abbrev pub most_within : Extent → Option ℕ
+most_within All = None
+most_within First = Some 1
 
 -- what it means that an evaluation was given up after so many steps: want of memory is no defect,
 -- and a fault of the run

@@ -166,3 +166,32 @@ fn tells_how_many_steps_were_made(rt: HostRuntime) -> Result<(), AllocError> {
     assert!(rt; output.taken.as_slice() == "1\n2\n".as_bytes());
     Ok(())
 }
+
+#[test]
+fn goes_no_further_than_the_first_node(rt: HostRuntime) -> Result<(), AllocError> {
+    // The root, one item, and at the root one selector and two more, are the steps to a first node.
+    let no_json = "line 3: document refused: NotJson\n";
+    let rows: [Row<'_>; 4] = [
+        (
+            &["eval", "--first", "--limit", "5"],
+            "$.*",
+            (3, "1\n3\n", no_json),
+        ),
+        (
+            &["eval", "--first", "--limit", "4"],
+            "$.*",
+            (3, "", "line 1: document refused: StepsUsedUp\n"),
+        ),
+        (
+            &["count", "--first", "--limit", "5"],
+            "$.*",
+            (3, "1\n1\n", no_json),
+        ),
+        (
+            &["both", "--first", "--number", "--limit", "5"],
+            "$.*",
+            (3, "1\t$[0]\t1\n2\t$[0]\t3\n", no_json),
+        ),
+    ];
+    assert_each(&rt, rt.alloc(), LISTS, &rows)
+}

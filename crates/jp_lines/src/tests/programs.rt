@@ -411,3 +411,37 @@ fn tells_by_its_status_that_nothing_is_selected(rt: HostRuntime) -> Result<(), A
     let plain = ["jp-lines", "eval", "$.a"];
     assert_ends(&rt, rt.alloc(), &plain, "{}\n", false, (0, "", "", 1))
 }
+
+#[test]
+fn writes_the_first_node_of_each_document_alone(rt: HostRuntime) -> Result<(), AllocError> {
+    let lines = "{\"a\":1,\"b\":[2,{\"a\":3}]}\n\nx\n[]\n[{\"a\":4}]\r\n";
+    let told = "line 3: document refused: NotJson\n";
+    let runs: [(&[&str], &str); 9] = [
+        (&["eval", "$.*"], "1\n{\"a\":4}\n"),
+        (&["eval", "$..a"], "1\n4\n"),
+        (&["paths", "$..a"], "$['a']\n$[0]['a']\n"),
+        (
+            &["both", "--number", "$..a"],
+            "1\t$['a']\t1\n5\t$[0]['a']\t4\n",
+        ),
+        (&["count", "$..a"], "1\n0\n1\n"),
+        (&["count", "--number", "$..*"], "1\t1\n4\t0\n5\t1\n"),
+        (&["eval", "$[0].a"], "4\n"),
+        (&["count", "$[0]"], "0\n0\n1\n"),
+        (&["count", "--line-buffered", "$"], "1\n1\n1\n"),
+    ];
+    for (words, written) in runs {
+        let mut line = Vec::new(rt.alloc());
+        line.extend_from_slice(&["jp-lines"])?;
+        line.extend_from_slice(words)?;
+        line.extend_from_slice(&["--keep-going", "--first"])?;
+        let flushes = if words.contains(&"--line-buffered") {
+            6
+        } else {
+            1
+        };
+        let ended = (3, written, told, flushes);
+        assert_ends(&rt, rt.alloc(), line.as_slice(), lines, false, ended)?;
+    }
+    Ok(())
+}

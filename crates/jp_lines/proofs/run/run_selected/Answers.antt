@@ -16,5 +16,5 @@ returns-in_err-location g c = λ profile request asked.
     c.from_residual.ensures.1
     (runs-stop_unread profile c.args.options g.R.Source.remaining g.R.Source.has_failed
     g.R.Source.read_gives g.W.Writer.contents g.W.Writer.has_failed g.E.Writer.contents
-    g.E.Writer.has_failed (Select c.args.wanted (query_of c.args.query.now.query)) request asked
+    g.E.Writer.has_failed (Select c.args.wanted c.args.extent (query_of c.args.query.now.query)) request asked
     c.args.input.now c.args.output.now c.args.faults.now)
