@@ -98,6 +98,24 @@ module _ {W : Type 0} (write_takes : W → Option (List ℕ) → W → Type 0) w
   goes-nowhere {X} o text (Err f) is =
       subst (λ e. GoesAs write_takes {X = X} o o text (Err e)) (sym is) (part-none o o text refl)
 
+  -- how far a text went where a call failed, whatever else is answered with that
+  pub goes-failing : (X Y : Type 0) (r : Result Y Fault) (f : Fault) (o p : W) (text : List ℕ)
+      → IsErrAnd r (λ e. e ≡ f) → GoesAs write_takes {X = X} o p text (Err f)
+      → GoesAs write_takes o p text r
+  goes-failing X Y (Ok y) f o p text is goes = absurd is
+  goes-failing X Y (Err Write) f o p text is goes =
+      subst (λ x. GoesAs write_takes {X = X} o p text (Err x)) (sym is) goes
+  goes-failing X Y (Err NoMemory) f o p text is goes =
+      subst (λ x. GoesAs write_takes {X = X} o p text (Err x)) (sym is) goes
+  goes-failing X Y (Err (Query r)) f o p text is goes =
+      subst (λ x. GoesAs write_takes {X = X} o p text (Err x)) (sym is) goes
+  goes-failing X Y (Err (Document d)) f o p text is goes =
+      subst (λ x. GoesAs write_takes {X = X} o p text (Err x)) (sym is) goes
+  goes-failing X Y (Err DocumentTooLarge) f o p text is goes =
+      subst (λ x. GoesAs write_takes {X = X} o p text (Err x)) (sym is) goes
+  goes-failing X Y (Err Read) f o p text is goes =
+      subst (λ x. GoesAs write_takes {X = X} o p text (Err x)) (sym is) goes
+
   -- a run that wrote how far its output went says so
   pub writes-by_calls : {X : Type 0} (IsOutput : List ℕ → Type 0) (o p : W) (output : List ℕ)
       (r : Result X Fault) → IsOutput output → GoesAs write_takes o p output r

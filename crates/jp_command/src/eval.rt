@@ -1,10 +1,12 @@
 //! A run of a query over an input.
 
-ghost use Rattle.std.specs.Prelude.{◌⊎◌, IfErr, IfOk};
+ghost use Rattle.std.specs.Prelude.{◌⊎◌, IfErr, IfOk, OnOk};
 ghost use Rattle.jp_tree.specs.Views.{query_of};
+ghost use Rattle.jp_command.specs.Lines.{output_of};
+ghost use Rattle.jp_command.specs.Output.{StopsWriting, WritesAll};
 ghost use Rattle.jp_command.specs.Private.Kept.{KeepsRead};
 ghost use Rattle.jp_command.specs.Run.{IsAsked, IsOutput, RanOut, RefusesQuery, RunsEval};
-ghost use Rattle.jp_command.specs.Writes.{WritesByCalls};
+ghost use Rattle.jp_command.specs.Writes.{GoesAs, WritesByCalls};
 
 use crate::device::{Source, Writer};
 use crate::fault::Fault;
@@ -16,6 +18,7 @@ use jp_check::{Checked, Profile, read_query};
 use jp_evaluate::named_location;
 use jp_flat::found_value;
 use jp_held::{read_flat, read_value_at};
+use jp_lent::Selectable;
 use jp_query::{Refusal, RefusalKind};
 use std::alloc::Global;
 
@@ -87,10 +90,29 @@ pub(crate) fn run_eval_keeping<R: Source, W: Writer>(
         }
         None => {
             let flat = read_flat(alloc, kept.as_slice())?;
-            write_selected(alloc, form, "", flat.value(), &query, &mut spare, output)?;
-            Ok(())
+            write_output(alloc, form, flat.value(), &query, &mut spare, output)
         }
     }
+}
+
+/// Writes the lines of all nodes, as `write_selected` does, and does not answer whether there are any.
+fn write_output<'d: 'q, 'q, V: Selectable + 'd, W: Writer>(
+    alloc: Global,
+    form: Form,
+    root: V,
+    query: &'q Checked,
+    spare: &mut Spare,
+    output: &mut W,
+) -> Result<(), Fault>
+    ensures ok { OnOk result (WritesAll W.contents W.has_failed output.old output.new
+        (output_of form (query_of query.now.query) (V.meaning root))) }
+    ensures stopped { IfErr result (StopsWriting W.contents W.has_failed output.old output.new
+        (output_of form (query_of query.now.query) (V.meaning root))) }
+    ensures calls { GoesAs W.write_takes output.old output.new
+        (output_of form (query_of query.now.query) (V.meaning root)) result }
+{
+    write_selected(alloc, form, "", root, query, spare, output)?;
+    Ok(())
 }
 
 /// Reads a query of at most `QUERY_LIMIT` bytes in a profile, as `read_query` does. A longer one is

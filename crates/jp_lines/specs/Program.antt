@@ -1,14 +1,17 @@
 -- What the program says with its status: the status and the line of each stop, and `RunsProgram`,
 -- which the clause of `run_program` cites.
-use Rattle.std.specs.Prelude.{◌≡◌, ◌⊎◌, ℕ, Bool, true, not, ◌&&◌, List, Option, Some, None}
+use Rattle.std.specs.Prelude.{◌≡◌, ◌⊎◌, ℕ, Bool, true, false, [], not, ◌&&◌, List, Option, Some, None}
 use Rattle.std.specs.Prelude.{Result, Ok, Err, if◌then◌else◌}
 use Rattle.std.specs.Io.KnownBytes.{Keeps}
+use Rattle.clap.specs.Words.{IsAmong, fault_of}
+use Rattle.clap.specs.declared.error.kind.ErrorKind.{ErrorKind}
+use Rattle.clap.specs.declared.error.kind.ErrorKind.TheVariants as kind
 use Rattle.jp_check.specs.declared.profile.Profile.{Profile}
 use Rattle.jp_command.specs.Line.{TellsExplained, fault_line, fault_text, status_of}
 use Rattle.jp_command.specs.Output.{AppendsPrefix, AppendsSome}
 use Rattle.jp_command.specs.declared.fault.Fault.TheVariants.{NoMemory, Query, Write}
 use Rattle.jp_query.specs.declared.refusal.Refusal.{Refusal}
-use Rattle.jp_lines.specs.CommandLine.{asked}
+use Rattle.jp_lines.specs.CommandLine.{asked, jp_lines}
 use Rattle.jp_lines.specs.Outcome.{Refused, refused_text, told_of}
 use Rattle.jp_lines.specs.Request.{Request, query_text}
 use Rattle.jp_lines.specs.Run.{FailsAtRead, RunsLines, StopsAtLine}
@@ -31,6 +34,21 @@ stop_line (Run fault) = fault_line fault
 abbrev pub status_of_stop : Stop → ℕ
 status_of_stop (Line refused) = 3
 status_of_stop (Run fault) = status_of fault
+
+-- help and the version are no faults of the words, though clap's error tells that they are asked for
+abbrev pub is_shown : ErrorKind → Bool
+is_shown kind.DisplayHelp = true
+is_shown kind.DisplayVersion = true
+is_shown _ = false
+
+-- clap finds that the words ask for help or for the version
+abbrev pub AsksToShow : List (List ℕ) → Type 0
+AsksToShow words = (k : ErrorKind) × IsAmong k (fault_of jp_lines words) × (is_shown k ≡ true)
+
+-- they are no command, and clap finds a fault in them, or none in words that name no task
+abbrev pub AreRefused : List (List ℕ) → Type 0
+AreRefused words = (asked words ≡ None) × ((fault_of jp_lines words ≡ [])
+    ⊎ ((k : ErrorKind) × IsAmong k (fault_of jp_lines words) × (is_shown k ≡ false)))
 
 -- The status of a run over all lines: some are refused; or, where the status is to tell it, nothing is
 -- selected in any.
@@ -85,7 +103,7 @@ module _ {R W E : Type 0} (remaining : R → Option (List ℕ)) (has_failed : R 
 
   -- What is said with a status. Behind the line of a refused query stands an explanation, unless
   -- memory ran out for it. Where the words are not ones that the command line takes, clap's text is
-  -- told, of which its contract says nothing.
+  -- told, of which its contract says nothing; the one of help and of the version is written.
   pub data RunsProgram (words : List (List ℕ)) (i j : R) (o p : W) (u v : E) (status : ℕ) : Type 0 where
     ended : (tally : Tally) (run : RunEnds words i j o p u v (Ok tally))
         → status ≡ status_of_end run.options tally → RunsProgram words i j o p u v status
@@ -97,7 +115,12 @@ module _ {R W E : Type 0} (remaining : R → Option (List ℕ)) (has_failed : R 
         → (run : RunEnds words i j o p u between (Err (Run (Query r))))
         → TellsRefusal reports reports_failed run.profile (query_text run.request) r between v
         → RunsProgram words i j o p u v status
-    usage : status ≡ 2 → asked words ≡ None → j ≡ i → p ≡ o
+    shown : status ≡ 0 → AsksToShow words → j ≡ i → v ≡ u → AppendsSome (contents o) (contents p)
+        → writes_failed p ≡ writes_failed o → RunsProgram words i j o p u v status
+    shown_in_part : status ≡ 5 → AsksToShow words → j ≡ i → AppendsSome (contents o) (contents p)
+        → writes_failed p ≡ true → TellsStop reports reports_failed (Run Write) u v
+        → RunsProgram words i j o p u v status
+    usage : status ≡ 2 → AreRefused words → j ≡ i → p ≡ o
         → AppendsSome (reports u) (reports v) → RunsProgram words i j o p u v status
     memory : status ≡ 4 → j ≡ i → p ≡ o
         → AppendsPrefix (reports u) (reports v) (fault_line NoMemory)

@@ -1,11 +1,12 @@
 //! The whole program over its words.
 
-ghost use Rattle.std.specs.Prelude.{◌≡◌, ◌⊎◌, Err, map, string_bytes, true};
+ghost use Rattle.std.specs.Prelude.{◌≡◌, ◌⊎◌, Err, IfErr, OnOk, map, string_bytes, true};
 ghost use Rattle.std.specs.Io.KnownBytes.{Keeps};
 ghost use Rattle.jp_command.specs.declared.fault.Fault.TheVariants.{Write};
-ghost use Rattle.jp_lines.specs.Private.Telling.{TellsRun};
+ghost use Rattle.jp_command.specs.Output.{AppendsSome};
+ghost use Rattle.jp_lines.specs.Private.Telling.{Shows, StopsShowing, TellsRun};
 ghost use Rattle.jp_lines.specs.Program.{RunsAndFlushes, RunsProgram, TellsStop, status_of_end};
-ghost use Rattle.jp_lines.specs.Program.{status_of_stop};
+ghost use Rattle.jp_lines.specs.Program.{is_shown, status_of_stop};
 ghost use Rattle.jp_lines.specs.Request.{query_text};
 ghost use Rattle.jp_lines.specs.Views.{request_of};
 ghost use Rattle.jp_lines.specs.declared.stop.Stop.TheVariants.{Run};
@@ -17,7 +18,10 @@ use crate::tally::Tally;
 use crate::task::Request;
 use crate::telling::tell;
 use crate::treating::flush;
+use crate::wanted::write_text;
 use crate::words::read_words;
+use clap::Error;
+use clap::error::ErrorKind;
 use jp_check::Profile;
 use jp_command::{
     Fault, Output, Source, Writer, read_within_limit, refuse_words, report, report_refusal, status,
@@ -31,7 +35,7 @@ const LINE_REFUSED: u8 = 3;
 const NOTHING_SELECTED: u8 = 6;
 
 /// Does what `words` ask for, of which the first is the program's name, and answers the status: 0
-/// where it is done, 1 where the query is refused, 2 where the words are not ones that the command
+/// where it is done, also where help or the version is written to `output`, 1 where the query is refused, 2 where the words are not ones that the command
 /// line takes, 3 where some line is refused, 4 where the memory did not suffice, 5 where the input
 /// or the output failed, and with `--exit-status` 6 where it is done and nothing was selected. Statuses
 /// 1 to 5 have their line in `faults`, if it can be written there, and status 3 after `--keep-going` one
@@ -59,8 +63,42 @@ pub fn run_program<R: Source, W: Output, E: Writer>(
                 status_of_stop(&stop)
             }
         },
+        Err(error) if is_shown(error.kind()) => show(alloc, &error, output, faults),
         Err(error) => refuse_words(alloc, &error, faults),
     }
+}
+
+/// Whether an error of clap's tells that its text is asked for, as help and the version are.
+fn is_shown(kind: ErrorKind) -> bool
+    ensures { result ≡ is_shown kind }
+{
+    matches!(kind, ErrorKind::DisplayHelp | ErrorKind::DisplayVersion)
+}
+
+/// Writes the text of clap's error, and answers the status.
+fn show<W: Output, E: Writer>(alloc: Global, error: &Error, output: &mut W, faults: &mut E) -> u8
+    ensures { Shows W.contents W.has_failed E.contents E.has_failed output.old output.new
+        faults.old faults.new result }
+{
+    match write_shown(alloc, error, output) {
+        Ok(()) => 0,
+        Err(fault) => {
+            let stop = Stop::Run(fault);
+            tell_line(alloc, &stop, faults);
+            status_of_stop(&stop)
+        }
+    }
+}
+
+/// Writes the text of clap's error and hands it on.
+fn write_shown<W: Output>(alloc: Global, error: &Error, output: &mut W) -> Result<(), Fault>
+    ensures written { AppendsSome (W.contents output.old) (W.contents output.new) }
+    ensures works { OnOk result (W.has_failed output.new ≡ W.has_failed output.old) }
+    ensures stopped { IfErr result (StopsShowing W.has_failed output.old output.new) }
+{
+    let text = error.to_string(alloc)?;
+    write_text(text.as_str(), output)?;
+    flush(true, output)
 }
 
 /// Does what is asked with the lines. The output is flushed before the answer, unless a write has failed.

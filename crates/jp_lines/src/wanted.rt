@@ -271,7 +271,7 @@ fn write_count<W: Writer>(
 }
 
 /// Writes a text.
-fn write_text<W: Writer>(text: &str, output: &mut W) -> Result<(), Fault>
+pub(crate) fn write_text<W: Writer>(text: &str, output: &mut W) -> Result<(), Fault>
     ensures ok { OnOk result (WritesAll W.contents W.has_failed output.old output.new text.now) }
     ensures stopped { IfErr result (StopsWriting W.contents W.has_failed output.old output.new
         text.now) }

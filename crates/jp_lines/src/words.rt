@@ -5,11 +5,12 @@ ghost use Rattle.std.specs.Prelude.{option_and_then, option_map, string_bytes};
 ghost use Rattle.clap.specs.Words.{IsAmong, app_of, fault_of, found_of, kind_of, rows_of};
 ghost use Rattle.clap.specs.Words.{subcommand_of, subcommand_rows_of};
 ghost use Rattle.clap.specs.declared.builder.command.Command.TheViews.{out-Command};
-ghost use Rattle.clap.specs.declared.error.kind.ErrorKind.TheVariants.{OutOfMemory};
+ghost use Rattle.clap.specs.declared.error.kind.ErrorKind.TheVariants.{MissingSubcommand, OutOfMemory};
 ghost use Rattle.jp_lines.specs.CommandLine.{asked, asked_by, jp_lines, lines_app};
 ghost use Rattle.jp_lines.specs.CommandLine.{extent_asked, limit_asked, options_asked, request_by};
 ghost use Rattle.jp_lines.specs.CommandLine.{wanted_called};
 ghost use Rattle.jp_lines.specs.CommandLine.{with_limit, with_line_flags, with_lines};
+ghost use Rattle.jp_lines.specs.Private.Words.{IsNoCommand};
 ghost use Rattle.jp_lines.specs.Views.{request_of};
 
 use crate::options::{Extent, Options, Wanted};
@@ -32,7 +33,7 @@ A refused query is explained, and with --explain a line that is no document, too
 
 Example: printf '{\"a\":1}\\n{\"a\":2}\\n' | jp-lines eval '$.a'
 
-Statuses: 0 done, 1 query refused, 2 usage or help, 3 some line refused,
+Statuses: 0 done, 1 query refused, 2 usage, 3 some line refused,
 4 want of memory, 5 read or write fault,
 6 with --exit-status: done, and nothing selected";
 
@@ -255,7 +256,7 @@ pub(crate) fn read_words<'w>(
     ensures asked { IfOk result (λ found.
         asked (map string_bytes words.entry.now) ≡ Some (found.0, request_of found.1, found.2)) }
     ensures refused { IfErr result (λ error. (kind_of error ≡ OutOfMemory)
-        ⊎ (asked (map string_bytes words.entry.now) ≡ None)) }
+        ⊎ IsNoCommand (kind_of error) (map string_bytes words.entry.now)) }
 {
     let matches = matches_of(alloc, words)?;
     match asked_in(&matches) {
@@ -265,6 +266,8 @@ pub(crate) fn read_words<'w>(
 }
 
 /// Clap's error for words that it takes and that name no subcommand with a query.
-fn no_query(alloc: Global) -> Result<Error, AllocError> {
+fn no_query(alloc: Global) -> Result<Error, AllocError>
+    ensures { IfOk result (λ error. kind_of error ≡ MissingSubcommand) }
+{
     jp_lines_command(alloc)?.error(ErrorKind::MissingSubcommand, "no subcommand has a query")
 }

@@ -227,8 +227,13 @@ fn refuses_words_that_name_no_run(rt: HostRuntime) -> Result<(), AllocError> {
     Ok(())
 }
 
-/// Words that clap tells of, and a part of what it tells: an example, or where a file's name goes.
-const TOLD: &[(&[&str], &str)] = &[
+/// Words that ask for help or for the version, and a part of what they are answered.
+const SHOWN: &[(&[&str], &str)] = &[
+    (
+        &["jp-lines", "--help"],
+        "\nExample: printf '{\"a\":1}\\n{\"a\":2}\\n' | jp-lines eval '$.a'\n",
+    ),
+    (&["jp-lines", "--version"], "jp-lines 0.1.0\n"),
     (
         &["jp-lines", "eval", "--help"],
         "\nExample: printf '[1]\\n[2]\\n' | jp-lines eval '$[0]'\n",
@@ -242,29 +247,79 @@ const TOLD: &[(&[&str], &str)] = &[
         "\nExample: printf '[1]\\n[2]\\n' | jp-lines both --number '$.*'\n",
     ),
     (
-        &["jp-lines", "count", "--help"],
+        &["jp-lines", "help", "count"],
         "\nExample: printf '[1]\\n[2,3]\\n' | jp-lines count '$.*'\n",
-    ),
-    (
-        &["jp-lines", "eval", "$", "d.jsonl"],
-        "\nUsage: jp-lines eval [OPTIONS] <QUERY> < FILE\n",
     ),
 ];
 
 #[test]
-fn shows_an_example_of_each_subcommand(rt: HostRuntime) -> Result<(), Fail> {
-    for (line, part) in TOLD {
+fn writes_help_and_the_version(rt: HostRuntime) -> Result<(), Fail> {
+    for (line, part) in SHOWN {
+        let mut output = Narrow::new(rt.alloc(), usize::MAX);
         let mut faults = Narrow::new(rt.alloc(), usize::MAX);
+        let mut lines = b"[1]".as_slice();
         let ended = run_program(
             rt.alloc(),
             words(rt.alloc(), line)?,
-            &mut Device::new(b"[1]".as_slice()),
-            &mut Device::new(Narrow::new(rt.alloc(), usize::MAX)),
+            &mut Device::new(&mut lines),
+            &mut Device::new(&mut output),
             &mut Device::new(&mut faults),
         );
-        let text = str::from_utf8(faults.taken.as_slice())?;
-        assert!(rt; ended == 2 && text.contains(part), "{part}");
+        assert_eq!(rt;
+            (ended, output.flushes, faults.taken.len(), lines.len()),
+            (0, 1, 0, 3)
+        );
+        let text = str::from_utf8(output.taken.as_slice())?;
+        assert!(rt; text.contains(part), "{part}");
     }
+    Ok(())
+}
+
+#[test]
+fn tells_that_help_could_not_be_written(rt: HostRuntime) -> Result<(), AllocError> {
+    for room in [0, 1, 100] {
+        let mut output = Narrow::new(rt.alloc(), room);
+        let mut faults = Narrow::new(rt.alloc(), usize::MAX);
+        let ended = run_program(
+            rt.alloc(),
+            words(rt.alloc(), &["jp-lines", "--help"])?,
+            &mut Device::new(b"[1]".as_slice()),
+            &mut Device::new(&mut output),
+            &mut Device::new(&mut faults),
+        );
+        assert_eq!(rt; (ended, output.taken.len(), output.flushes), (5, room, 0));
+        assert!(rt; faults.taken.as_slice() == "write fault\n".as_bytes());
+    }
+    let mut output = Unflushed {
+        taken: Vec::new(rt.alloc()),
+    };
+    let mut faults = Narrow::new(rt.alloc(), usize::MAX);
+    let ended = run_program(
+        rt.alloc(),
+        words(rt.alloc(), &["jp-lines", "--version"])?,
+        &mut Device::new(b"[1]".as_slice()),
+        &mut Device::new(&mut output),
+        &mut Device::new(&mut faults),
+    );
+    assert_eq!(rt; ended, 5);
+    assert!(rt; output.taken.as_slice() == "jp-lines 0.1.0\n".as_bytes());
+    assert!(rt; faults.taken.as_slice() == "write fault\n".as_bytes());
+    Ok(())
+}
+
+#[test]
+fn tells_where_the_name_of_a_file_goes(rt: HostRuntime) -> Result<(), Fail> {
+    let mut faults = Narrow::new(rt.alloc(), usize::MAX);
+    let ended = run_program(
+        rt.alloc(),
+        words(rt.alloc(), &["jp-lines", "eval", "$", "d.jsonl"])?,
+        &mut Device::new(b"[1]".as_slice()),
+        &mut Device::new(Narrow::new(rt.alloc(), usize::MAX)),
+        &mut Device::new(&mut faults),
+    );
+    let text = str::from_utf8(faults.taken.as_slice())?;
+    let part = "\nUsage: jp-lines eval [OPTIONS] <QUERY> < FILE\n";
+    assert!(rt; ended == 2 && text.contains(part), "{text}");
     Ok(())
 }
 

@@ -74,14 +74,14 @@ returns g c =
       says = run-ends c.args.profile g.R.Source.remaining g.R.Source.has_failed
           g.R.Source.read_gives g.W.Writer.contents g.W.Writer.has_failed c.args.form
           c.args.query.now c.args.input.now c.read_all.new.input c.args.output.now
-          c.write_selected.new.output output c.write_selected.result is
-          c.in_ok-bytes.ensures.ok.works c.write_selected.ensures.ok
-          c.write_selected.ensures.stopped;
+          c.write_output.new.output output c.write_output.result is
+          c.in_ok-bytes.ensures.ok.works c.write_output.ensures.ok
+          c.write_output.ensures.stopped;
       calls = writes-by_calls g.W.Writer.write_takes Is c.args.output.now
-          c.write_selected.new.output output c.write_selected.result is
-          c.write_selected.ensures.calls;
+          c.write_output.new.output output c.write_output.result is
+          c.write_output.ensures.calls;
       kept = keeps-writing c.args.profile _ _ _ _ _ c.args.query.now _ _ _ _ _ output
-          c.write_selected.result c.write_selected.ensures.stopped;
+          c.write_output.result c.write_output.ensures.stopped;
     }
 
 pub returns-in-Some : goal.returns-in-Some

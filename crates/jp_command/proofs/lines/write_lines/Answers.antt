@@ -1,9 +1,9 @@
-use Rattle.std.proofs.Common.{◌≡◌, ◌∙◌, rules, sym}
-use Rattle.jp_evaluate.specs.Lent.{given_node}
+use Rattle.std.proofs.Common.{◌≡◌, ◌∙◌, refl, rules, sym}
+use Rattle.jp_evaluate.specs.Lent.{given_node, rest_of}
 use Rattle.jp_command.specs.Lines.{line_behind}
 use Rattle.jp_command.proofs.Fronts.{along_none, comes_along}
 use Rattle.jp_command.proofs.LineLemmas.{given_more, given_none, given_part, goes-for_memory, line_alike}
-use Rattle.jp_command.proofs.LineLemmas.{part-goes, part-is_prefix, stops-for_memory}
+use Rattle.jp_command.proofs.LineLemmas.{part-goes, part-is_prefix, some_given, stops-for_memory}
 use Rattle.jp_command.proofs.lines.write_lines.Goals as goal
 
 pub loop-next-init : goal.loop-next-init
@@ -14,6 +14,7 @@ loop-next-init g c = record {
   unlimited = search rules;
   written = given_none g.W.Writer.contents g.W.Writer.has_failed g.W.Writer.write_takes
       (line_behind c.args.lead.now c.args.form) _ _;
+  some = refl;
   works = search rules;
 }
 
@@ -99,5 +100,7 @@ loop-next-preserved g c =
       written = given_more g.W.Writer.contents g.W.Writer.has_failed g.W.Writer.write_takes behind _ _ _ n _ _ _
           c.loop-next.invariant.written given.3 (rw line at c.in-Ok.ensures.ok)
           (rw line at c.in-Ok.ensures.calls);
+      some = some_given c.loop-next.some (rest_of g.V.Lent.meaning c.args.nodes.now) _ _ n
+          c.loop-next.invariant.some given.3;
       works = search rules;
     }
