@@ -46,7 +46,7 @@ module _ {V : Type 0} (m : V → Value) where
       → has_node (found_nodes m ks found) ≡ has_node (nodelist q d)
   found-selects q d ks found names at = ap has_node (found-selected q d ks found names at)
 
-  pub found-some : (ks : List Step) (found : Option V)
+  pub found_some : (ks : List Step) (found : Option V)
       → is_some found ≡ has_node (found_nodes m ks found)
-  found-some ks None = refl
-  found-some ks (Some v) = refl
+  found_some ks None = refl
+  found_some ks (Some v) = refl

@@ -6,6 +6,7 @@ pub mod Kept
 pub mod Going
 pub mod LineLemmas
 pub mod FoundValues
+pub mod Within
 pub mod Finding
 pub mod Chunks
 pub mod Ending

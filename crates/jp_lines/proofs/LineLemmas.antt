@@ -13,6 +13,8 @@ use Rattle.jp_document.specs.Document.{IsDocument, IsDocumentFault}
 use Rattle.jp_document.specs.Value.{Value}
 use Rattle.jp_document.specs.declared.fault.DocumentFault.{DocumentFault}
 use Rattle.jp_document.specs.declared.fault.DocumentFault.TheVariants as document
+use Rattle.jp_evaluate.specs.declared.evaluation_fault.EvaluationFault.{EvaluationFault}
+use Rattle.jp_evaluate.specs.declared.evaluation_fault.EvaluationFault.TheVariants as evaluation
 use Rattle.jp_command.specs.Limits.{document_limit}
 use Rattle.jp_command.specs.Output.{AppendsPrefix, StopsWriting, WritesAll}
 use Rattle.jp_command.specs.declared.fault.Fault.{Fault}
@@ -27,13 +29,13 @@ use Rattle.jp_lines.specs.Told.{Tells}
 use Rattle.jp_lines.specs.Private.Answers.{AnswersOrRefuses, AnswersInPart, AnswersLine}
 use Rattle.jp_lines.specs.Private.Answers.{StopsAnswering}
 use Rattle.jp_lines.specs.Private.Answers.{defect_of}
-use Rattle.jp_lines.specs.Private.Limits.{WritesOrGivesUp}
+use Rattle.jp_lines.specs.Private.Limits.{WritesOrGivesUp, stop_of}
 use Rattle.jp_lines.specs.Private.Passing.{GoesThrough, Standing, kept_of}
 use Rattle.jp_lines.specs.Private.Treating.{Treats, StopsEnding}
 use Rattle.jp_lines.specs.Task.{Task, selects, written_for}
-use Rattle.jp_lines.specs.declared.answer.Answer.{Answer}
-use Rattle.jp_lines.specs.declared.answer.Answer.TheVariants as answer
-use Rattle.jp_lines.specs.declared.answer.Answer.TheVariants.{Written}
+use Rattle.jp_lines.specs.declared.answer.Reply.{Reply}
+use Rattle.jp_lines.specs.declared.answer.Reply.TheVariants as reply
+use Rattle.jp_lines.specs.declared.answer.Reply.TheVariants.{Written}
 use Rattle.jp_lines.specs.declared.defect.Defect.{Defect}
 use Rattle.jp_lines.specs.declared.defect.Defect.TheVariants as defect
 use Rattle.jp_lines.specs.declared.defect.RefusedLine.{RefusedLine}
@@ -43,13 +45,23 @@ use Rattle.jp_lines.specs.declared.stop.Stop.TheVariants as stop
 use Rattle.jp_lines.specs.declared.tally.Tally.{Tally}
 use Rattle.jp_lines.proofs.Going.{goes-none}
 use Rattle.jp_lines.proofs.Outcomes.{come-one, comes-kept}
-use Rattle.jp_lines.proofs.ToldLemmas.{tells-none, writes-none}
+use Rattle.jp_lines.proofs.ToldLemmas.{Appends-none, tells-none, writes-none}
 
 -- an error that is this one
 pub err-is : {T E : Type 0} (r : Result T E) (e : E) (P : E → Type 0) → IsErrAnd r (λ x. x ≡ e) → P e
     → IfErr r P
 err-is (Ok x) e P is holds = absurd is
 err-is (Err x) e P is holds = subst P (sym is) holds
+
+-- where a text could not be made, nothing of it is written
+pub stops-made : {W : Type 0} (contents : W → Option (List ℕ)) (has_failed : W → Bool)
+    (f : EvaluationFault) (made : ℕ) (text : List ℕ) (o : W)
+    → IfErr (stop_of f made) (StopsWriting contents has_failed o o text)
+stops-made contents has_failed evaluation.NoMemory made text o = (
+  record { prefix = []; rest = text; is = refl; written = Appends-none (contents o) },
+  refl,
+)
+stops-made contents has_failed evaluation.StepsUsedUp made text o = tt
 
 module _ {W : Type 0} (contents : W → Option (List ℕ)) (has_failed : W → Bool) (options : Options)
     (task : Task) (n : ℕ) (line : List ℕ) where
@@ -76,16 +88,16 @@ module _ {W : Type 0} (contents : W → Option (List ℕ)) (has_failed : W → B
   }
 
   -- it is written, or given up
-  pub answers-wanted : (d : Value) (o p : W) (given : Answer) → length line ≤ document_limit
+  pub answers-wanted : (d : Value) (o p : W) (given : Reply) → length line ≤ document_limit
       → is_blank_line line ≡ false → IsDocument line d
       → WritesOrGivesUp contents has_failed options.limit (selects task d) (output d) o p given
       → AnswersOrRefuses contents has_failed options task n line o p given
   answers-wanted d o p (Written selected) few some is writes =
       answers-document d o p few some is writes.1 selected writes.0
-  answers-wanted d o p (answer.Refused (defect.StepsUsedUp made)) few some is up =
+  answers-wanted d o p (reply.Refused (defect.StepsUsedUp made)) few some is up =
       (steps_used_up d made few some is up.0, up.1)
-  answers-wanted d o p (answer.Refused (defect.Document f)) few some is up = absurd up
-  answers-wanted d o p (answer.Refused defect.TooLarge) few some is up = absurd up
+  answers-wanted d o p (reply.Refused (defect.Document f)) few some is up = absurd up
+  answers-wanted d o p (reply.Refused defect.TooLarge) few some is up = absurd up
 
   pub stops-document : (d : Value) (o p : W) (f : Fault) → length line ≤ document_limit
       → is_blank_line line ≡ false → IsDocument line d

@@ -3,10 +3,13 @@
 use Rattle.std.proofs.Common.{◌≡◌, ◌⊎◌, inl, inr, ℕ, Bool, false, List, Option, Err, subst, sym}
 use Rattle.jp_check.specs.declared.profile.Profile.{Profile}
 use Rattle.jp_command.specs.Line.{TellsExplained, fault_line}
-use Rattle.jp_command.specs.Output.{AppendsPrefix}
-use Rattle.jp_command.specs.declared.fault.Fault.TheVariants.{Query}
+use Rattle.jp_command.specs.Output.{AppendsPrefix, AppendsSome}
+use Rattle.jp_command.specs.declared.fault.Fault.{Fault}
+use Rattle.jp_command.specs.declared.fault.Fault.TheVariants.{Query, Document, DocumentTooLarge}
+use Rattle.jp_command.specs.declared.fault.Fault.TheVariants.{NoMemory, Read, Write}
 use Rattle.jp_query.specs.declared.refusal.Refusal.{Refusal}
-use Rattle.jp_lines.specs.Private.Telling.{TellsRun, line_alone, with_explanation}
+use Rattle.jp_lines.specs.Private.Telling.{Shows, StopsShowing, TellsRun, line_alone, memory, part}
+use Rattle.jp_lines.specs.Private.Telling.{with_explanation}
 use Rattle.jp_lines.specs.Program.{RunEnds, RunsProgram, TellsRefusal, explained, status_of_stop}
 use Rattle.jp_lines.specs.Program.{TellsStop, stopped}
 use Rattle.jp_lines.specs.Request.{query_text}
@@ -25,6 +28,20 @@ module _ {E : Type 0} (reports : E → Option (List ℕ)) (reports_failed : E �
       (record { prefix = prefix; silent = λ failed. cc }))
   tells-query profile query r stop u v is works (inr told) =
       with_explanation r is (record { prefix = told; silent = λ failed. cc })
+
+-- why clap's text was not written is told
+module _ {W E : Type 0} (contents : W → Option (List ℕ)) (writes_failed : W → Bool)
+    (reports : E → Option (List ℕ)) (reports_failed : E → Bool) where
+  pub shows-stopped : (f : Fault) (o p : W) (u v : E) (status : ℕ)
+      → AppendsSome (contents o) (contents p) → StopsShowing writes_failed o p f
+      → status ≡ status_of_stop (Run f) → TellsStop reports reports_failed (Run f) u v
+      → Shows contents writes_failed reports reports_failed o p u v status
+  shows-stopped NoMemory o p u v status written stops is told = memory is stops told
+  shows-stopped Write o p u v status written stops is told = part is written stops told
+  shows-stopped (Query r) o p u v status written stops is told = absurd stops
+  shows-stopped (Document d) o p u v status written stops is told = absurd stops
+  shows-stopped DocumentTooLarge o p u v status written stops is told = absurd stops
+  shows-stopped Read o p u v status written stops is told = absurd stops
 
 module _ {R W E : Type 0} (remaining : R → Option (List ℕ)) (has_failed : R → Bool)
     (read_gives : R → Option (List ℕ) → R → Type 0) (contents : W → Option (List ℕ))

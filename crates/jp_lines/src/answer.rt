@@ -31,7 +31,7 @@ pub(crate) struct Asked<'q> {
 
 /// What a line comes to.
 #[derive(Drop)]
-pub(crate) enum Answer {
+pub(crate) enum Reply {
     /// All that is to be written of it is written; whether something in it is selected.
     Written(bool),
     /// It is refused, and nothing is written of it.
@@ -74,7 +74,7 @@ pub(crate) fn answer<W: Writer>(
     line: &[u8],
     memory: &mut Memory,
     output: &mut W,
-) -> Result<Answer, Fault>
+) -> Result<Reply, Fault>
     requires named { HasNamedLocation asked.task }
     ensures answers { IfOk result (AnswersOrRefuses W.contents W.has_failed asked.entry.options
         (task_of asked.entry.task) number line.now output.old output.new) }
@@ -82,10 +82,10 @@ pub(crate) fn answer<W: Writer>(
         (task_of asked.entry.task) number line.now output.old output.new) }
 {
     if line.len() > DOCUMENT_LIMIT {
-        return Ok(Answer::Refused(Defect::TooLarge));
+        return Ok(Reply::Refused(Defect::TooLarge));
     }
     if is_blank_line(line) {
-        return Ok(Answer::Written(false));
+        return Ok(Reply::Written(false));
     }
     match asked.task {
         Task::Select(selection) => match selection.location {
@@ -108,7 +108,7 @@ fn answer_at<W: Writer>(
     line: &[u8],
     memory: &mut Memory,
     output: &mut W,
-) -> Result<Answer, Fault>
+) -> Result<Reply, Fault>
     requires named { NamesLocation (query_of selection.query.now.query)
         (map step_of location.now) }
     requires few { length line.now ≤ document_limit }
@@ -130,7 +130,7 @@ fn answer_at<W: Writer>(
                 memory,
                 output,
             )?;
-            Ok(Answer::Written(selected))
+            Ok(Reply::Written(selected))
         }
         Err(fault) => defect_of(fault),
     }
@@ -143,7 +143,7 @@ fn answer_whole<W: Writer>(
     line: &[u8],
     memory: &mut Memory,
     output: &mut W,
-) -> Result<Answer, Fault>
+) -> Result<Reply, Fault>
     requires few { length line.now ≤ document_limit }
     requires some { is_blank_line line.now ≡ false }
     ensures answers { IfOk result (AnswersOrRefuses W.contents W.has_failed asked.entry.options
@@ -166,11 +166,11 @@ fn answer_whole<W: Writer>(
 }
 
 /// The defect of a line with that fault. Want of memory is none.
-fn defect_of(fault: DocumentFault) -> Result<Answer, Fault>
+fn defect_of(fault: DocumentFault) -> Result<Reply, Fault>
     ensures { result ≡ defect_of fault }
 {
     match fault {
         DocumentFault::NoMemory => Err(Fault::NoMemory),
-        fault => Ok(Answer::Refused(Defect::Document(fault))),
+        fault => Ok(Reply::Refused(Defect::Document(fault))),
     }
 }

@@ -7,24 +7,24 @@ ghost use Rattle.jp_command.specs.Output.{AppendsSome};
 ghost use Rattle.jp_lines.specs.Private.Telling.{Shows, StopsShowing, TellsRun};
 ghost use Rattle.jp_lines.specs.Program.{RunsAndFlushes, RunsProgram, TellsStop, status_of_end};
 ghost use Rattle.jp_lines.specs.Program.{is_shown, status_of_stop};
-ghost use Rattle.jp_lines.specs.Request.{query_text};
+ghost use Rattle.jp_lines.specs.Request.{SelectBy, query_text};
 ghost use Rattle.jp_lines.specs.Views.{request_of};
 ghost use Rattle.jp_lines.specs.declared.stop.Stop.TheVariants.{Run};
 
-use crate::options::Options;
+use crate::options::{Extent, Options, Wanted};
 use crate::run::run_selected;
 use crate::stop::Stop;
 use crate::tally::Tally;
 use crate::task::Request;
 use crate::telling::tell;
 use crate::treating::flush;
-use crate::wanted::write_text;
 use crate::words::read_words;
 use clap::Error;
 use clap::error::ErrorKind;
 use jp_check::Profile;
 use jp_command::{
     Fault, Output, Source, Writer, read_within_limit, refuse_words, report, report_refusal, status,
+    write_all,
 };
 use std::alloc::Global;
 
@@ -97,7 +97,9 @@ fn write_shown<W: Output>(alloc: Global, error: &Error, output: &mut W) -> Resul
     ensures stopped { IfErr result (StopsShowing W.has_failed output.old output.new) }
 {
     let text = error.to_string(alloc)?;
-    write_text(text.as_str(), output)?;
+    let Ok(()) = write_all(output, text.as_bytes()) else {
+        return Err(Fault::Write);
+    };
     flush(true, output)
 }
 
@@ -116,14 +118,34 @@ fn run_and_flush<R: Source, W: Output, E: Writer>(
         input.old input.new output.old output.new faults.old faults.new result }
 {
     match request {
-        Request::SelectBy(wanted, extent, query) => {
-            let query = read_within_limit(alloc, query, profile).map_err(Fault::from)?;
-            let ended = run_selected(
-                alloc, wanted, extent, &query, options, input, output, faults,
-            );
-            flush_ended(ended, output)
-        }
+        Request::SelectBy(wanted, extent, query) => select_and_flush(
+            alloc, wanted, extent, query, profile, options, input, output, faults,
+        ),
     }
+}
+
+/// The same for the nodes that a query selects.
+fn select_and_flush<R: Source, W: Output, E: Writer>(
+    alloc: Global,
+    wanted: Wanted,
+    extent: Extent,
+    query: &str,
+    profile: Profile,
+    options: Options,
+    input: &mut R,
+    output: &mut W,
+    faults: &mut E,
+) -> Result<Tally, Stop>
+    ensures { RunsAndFlushes R.remaining R.has_failed R.read_gives
+        W.contents W.has_failed E.contents E.has_failed options profile
+        (SelectBy wanted extent query.now)
+        input.old input.new output.old output.new faults.old faults.new result }
+{
+    let query = read_within_limit(alloc, query, profile).map_err(Fault::from)?;
+    let ended = run_selected(
+        alloc, wanted, extent, &query, options, input, output, faults,
+    );
+    flush_ended(ended, output)
 }
 
 /// The text of the query that is asked.

@@ -11,7 +11,7 @@ ghost use Rattle.jp_lines.specs.Private.Passing.{kept_of};
 ghost use Rattle.jp_lines.specs.Private.Treating.{StopsEnding, Treats};
 ghost use Rattle.jp_lines.specs.Views.{task_of};
 
-use crate::answer::{Answer, Asked, Memory, answer};
+use crate::answer::{Asked, Memory, Reply, answer};
 use crate::defect::{Defect, RefusedLine};
 use crate::explaining::explanation;
 use crate::stop::Stop;
@@ -40,14 +40,14 @@ pub(crate) fn treat<W: Output, E: Writer>(
         output.old output.new faults.old faults.new why) }
 {
     match answer(asked, number, kept, memory, output)? {
-        Answer::Written(selected) => {
+        Reply::Written(selected) => {
             flush(asked.options.line_buffered, output)?;
             Ok(Tally {
                 refused: false,
                 selected,
             })
         }
-        Answer::Refused(defect) => {
+        Reply::Refused(defect) => {
             refuse(asked, number, kept, defect, faults)?;
             Ok(Tally {
                 refused: true,

@@ -13,7 +13,7 @@ ghost use Rattle.jp_lines.specs.Private.Limits.{IsAllowed, WritesOrGivesUp, most
 ghost use Rattle.jp_lines.specs.Task.{nodes_output, nodes_within, selects, written_for};
 ghost use Rattle.jp_lines.specs.Views.{task_of};
 
-use crate::answer::{Answer, Asked, Memory};
+use crate::answer::{Asked, Memory, Reply};
 use crate::count::count_selected;
 use crate::defect::Defect;
 use crate::options::{Extent, Wanted};
@@ -35,7 +35,7 @@ pub(crate) fn write_for<'d: 'q, 'q, V: Selectable + 'd, W: Writer>(
     root: V,
     memory: &mut Memory,
     output: &mut W,
-) -> Result<Answer, Fault>
+) -> Result<Reply, Fault>
     ensures ok { IfOk result (WritesOrGivesUp W.contents W.has_failed asked.entry.options.limit
         (selects (task_of asked.entry.task) (V.meaning root))
         (written_for (task_of asked.entry.task) (lead_of asked.entry.options.numbered number)
@@ -61,7 +61,7 @@ fn write_wanted<'d: 'q, 'q, V: Selectable + 'd, W: Writer>(
     root: V,
     spare: &mut Spare,
     output: &mut W,
-) -> Result<Answer, Fault>
+) -> Result<Reply, Fault>
     ensures ok { IfOk result (WritesOrGivesUp W.contents W.has_failed asked.entry.options.limit
         (has_node (nodelist (query_of selection.entry.query.now.query) (V.meaning root)))
         (nodes_output selection.entry.wanted lead.now
@@ -83,7 +83,7 @@ fn write_wanted<'d: 'q, 'q, V: Selectable + 'd, W: Writer>(
                 spare,
                 output,
             )?;
-            Ok(Answer::Written(selected))
+            Ok(Reply::Written(selected))
         }
         (_, _, limit) => write_whole(
             asked,
@@ -107,7 +107,7 @@ fn write_whole<'d: 'q, 'q, V: Selectable + 'd, W: Writer>(
     root: V,
     spare: &mut Spare,
     output: &mut W,
-) -> Result<Answer, Fault>
+) -> Result<Reply, Fault>
     requires { IsAllowed asked.options.limit allowed }
     ensures ok { IfOk result (WritesOrGivesUp W.contents W.has_failed asked.entry.options.limit
         (has_node (nodelist (query_of selection.entry.query.now.query) (V.meaning root)))
@@ -123,7 +123,7 @@ fn write_whole<'d: 'q, 'q, V: Selectable + 'd, W: Writer>(
     match make_wanted(asked.alloc, selection, lead, root, spare, &mut steps) {
         Ok(selected) => {
             write_text(spare.line.as_str(), output)?;
-            Ok(Answer::Written(selected))
+            Ok(Reply::Written(selected))
         }
         Err(fault) => stop_of(fault, allowed.left() - steps.left()),
     }
@@ -151,12 +151,12 @@ fn allowed_by(limit: Option<u64>) -> Steps
 
 /// What an evaluation that was given up after so many steps means for the line: a defect, or that
 /// memory ran out.
-fn stop_of(fault: EvaluationFault, made: u64) -> Result<Answer, Fault>
+fn stop_of(fault: EvaluationFault, made: u64) -> Result<Reply, Fault>
     ensures { result ≡ stop_of fault made }
 {
     match fault {
         EvaluationFault::NoMemory => Err(Fault::NoMemory),
-        EvaluationFault::StepsUsedUp => Ok(Answer::Refused(Defect::StepsUsedUp(made))),
+        EvaluationFault::StepsUsedUp => Ok(Reply::Refused(Defect::StepsUsedUp(made))),
     }
 }
 
@@ -221,10 +221,10 @@ pub(crate) fn write_wanted_at<V: Selectable, W: Writer>(
 ) -> Result<bool, Fault>
     ensures some { IfOk result (λ some. some ≡ has_node (found_nodes V.meaning location.now value)) }
     ensures ok { OnOk result (WritesAll W.contents W.has_failed output.old output.new
-        (nodes_output wanted.entry (lead_of asked.entry.options.numbered number)
+        (nodes_output wanted (lead_of asked.entry.options.numbered number)
         (found_nodes V.meaning location.now value))) }
     ensures stopped { IfErr result (StopsWriting W.contents W.has_failed output.old output.new
-        (nodes_output wanted.entry (lead_of asked.entry.options.numbered number)
+        (nodes_output wanted (lead_of asked.entry.options.numbered number)
         (found_nodes V.meaning location.now value))) }
 {
     let lead = &mut memory.lead;
@@ -271,7 +271,7 @@ fn write_count<W: Writer>(
 }
 
 /// Writes a text.
-pub(crate) fn write_text<W: Writer>(text: &str, output: &mut W) -> Result<(), Fault>
+fn write_text<W: Writer>(text: &str, output: &mut W) -> Result<(), Fault>
     ensures ok { OnOk result (WritesAll W.contents W.has_failed output.old output.new text.now) }
     ensures stopped { IfErr result (StopsWriting W.contents W.has_failed output.old output.new
         text.now) }

@@ -11,18 +11,18 @@ use Rattle.jp_command.specs.declared.fault.Fault.{Fault}
 use Rattle.jp_command.specs.declared.fault.Fault.TheVariants.{NoMemory, Write}
 use Rattle.jp_lines.specs.Outcome.{Answered, ComesTo, IsDefective}
 use Rattle.jp_lines.specs.Task.{Task}
-use Rattle.jp_lines.specs.declared.answer.Answer.{Answer}
-use Rattle.jp_lines.specs.declared.answer.Answer.TheVariants as answer
-use Rattle.jp_lines.specs.declared.answer.Answer.TheVariants.{Written}
+use Rattle.jp_lines.specs.declared.answer.Reply.{Reply}
+use Rattle.jp_lines.specs.declared.answer.Reply.TheVariants as reply
+use Rattle.jp_lines.specs.declared.answer.Reply.TheVariants.{Written}
 use Rattle.jp_lines.specs.declared.defect.Defect.TheVariants.{Document}
 use Rattle.jp_lines.specs.declared.options.Options.{Options}
 use Rattle.jp_lines.specs.declared.task.Task as coded
 use Rattle.jp_lines.specs.declared.task.Task.TheVariants as tasks
 
 -- the defect of a line whose bytes have that fault: want of memory is none, and a fault of the run
-abbrev pub defect_of : DocumentFault → Result Answer Fault
+abbrev pub defect_of : DocumentFault → Result Reply Fault
 defect_of document.NoMemory = Err NoMemory
-defect_of fault = Ok (answer.Refused (Document fault))
+defect_of fault = Ok (reply.Refused (Document fault))
 
 -- the location of a selection is the one that its query names, if it is any
 abbrev pub HasNamedLocation : coded.Task → Type 0
@@ -45,9 +45,9 @@ module _ {W : Type 0} (contents : W → Option (List ℕ)) (has_failed : W → B
     pub comes : ComesTo options task number line (Answered selected output)
     pub writes : AppendsPrefix (contents o) (contents p) output
 
-  abbrev pub AnswersOrRefuses : Answer → Type 0
+  abbrev pub AnswersOrRefuses : Reply → Type 0
   AnswersOrRefuses (Written selected) = AnswersLine selected
-  AnswersOrRefuses (answer.Refused defect) =
+  AnswersOrRefuses (reply.Refused defect) =
       IsDefective options line defect × (p ≡ o)
 
   abbrev pub StopsAnswering : Fault → Type 0

@@ -7,8 +7,8 @@ use Rattle.jp_evaluate.specs.declared.evaluation_fault.EvaluationFault.TheVarian
 use Rattle.jp_command.specs.Output.{WritesAll}
 use Rattle.jp_command.specs.declared.fault.Fault.{Fault}
 use Rattle.jp_command.specs.declared.fault.Fault.TheVariants.{NoMemory}
-use Rattle.jp_lines.specs.declared.answer.Answer.{Answer}
-use Rattle.jp_lines.specs.declared.answer.Answer.TheVariants.{Refused, Written}
+use Rattle.jp_lines.specs.declared.answer.Reply.{Reply}
+use Rattle.jp_lines.specs.declared.answer.Reply.TheVariants.{Refused, Written}
 use Rattle.jp_lines.specs.declared.defect.Defect.TheVariants.{StepsUsedUp}
 use Rattle.jp_lines.specs.declared.options.Extent.{Extent}
 use Rattle.jp_lines.specs.declared.options.Extent.TheVariants.{All, First}
@@ -25,7 +25,7 @@ most_within First = Some 1
 
 -- what it means that an evaluation was given up after so many steps: want of memory is no defect,
 -- and a fault of the run
-abbrev pub stop_of : EvaluationFault → ℕ → Result Answer Fault
+abbrev pub stop_of : EvaluationFault → ℕ → Result Reply Fault
 stop_of evaluation.NoMemory made = Err NoMemory
 stop_of evaluation.StepsUsedUp made = Ok (Refused (StepsUsedUp made))
 
@@ -34,7 +34,7 @@ module _ {W : Type 0} (contents : W → Option (List ℕ)) (has_failed : W → B
     (selects : Bool) (text : List ℕ) (o p : W) where
   -- the text is written, of a document in which something is selected or not; or all steps that the
   -- limit allows were made, and nothing is written
-  abbrev pub WritesOrGivesUp : Answer → Type 0
+  abbrev pub WritesOrGivesUp : Reply → Type 0
   WritesOrGivesUp (Written selected) = (selected ≡ selects) × WritesAll contents has_failed o p text
   WritesOrGivesUp (Refused (StepsUsedUp made)) = (limit ≡ Some made) × (p ≡ o)
   WritesOrGivesUp (Refused _) = ⊥

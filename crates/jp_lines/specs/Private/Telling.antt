@@ -21,7 +21,7 @@ module _ {E : Type 0} (reports : E → Option (List ℕ)) (reports_failed : E �
 module _ {W : Type 0} (has_failed : W → Bool) (o p : W) where
   -- why clap's text was not written to its end
   abbrev pub StopsShowing : Fault → Type 0
-  StopsShowing NoMemory = has_failed p ≡ has_failed o
+  StopsShowing NoMemory = p ≡ o
   StopsShowing Write = has_failed p ≡ true
   StopsShowing _ = ⊥
 

@@ -13,7 +13,7 @@ returns-in_err-answer-in-Ok-clause-stopped g c =
     err-is c.from_residual.result c.in_err-answer-in-Ok.field-0.0 _ c.from_residual.ensures.1
     (stops-document g.W.Writer.contents g.W.Writer.has_failed c.args.asked.options
     (task_of c.args.asked.task) c.args.number
-    c.args.line.now d c.args.output.now c.write_wanted.new.output
+    c.args.line.now d c.args.output.now c.write_for.new.output
     c.in_err-answer-in-Ok.field-0.0 c.requires.few c.requires.some is
     c.in_err-answer-in-Ok.ensures.stopped)
 
@@ -24,7 +24,7 @@ returns-in_ok-answer-in-Ok-clause-answers g c =
     let is : IsDocument c.args.line.now d = subst (IsDocument c.args.line.now) (sym c.value.ensures) c.in-Ok.ensures.ok in
     answers-wanted g.W.Writer.contents g.W.Writer.has_failed c.args.asked.options
     (task_of c.args.asked.task) c.args.number
-    c.args.line.now d c.args.output.now c.write_wanted.new.output
+    c.args.line.now d c.args.output.now c.write_for.new.output
     c.in_ok-answer-in-Ok.answer c.requires.few c.requires.some is c.in_ok-answer-in-Ok.ensures.ok
 
 pub returns-in-Err-clause-answers : goal.returns-in-Err-clause-answers

@@ -1,4 +1,5 @@
 use Rattle.std.proofs.Common.{rules}
+use Rattle.jp_lines.specs.Program.{ended}
 use Rattle.jp_lines.specs.Views.{request_of}
 use Rattle.jp_lines.proofs.Told.{says-stop}
 use Rattle.jp_lines.proofs.program.run_program.Goals as goal
@@ -14,3 +15,15 @@ returns-in-Ok g c =
       runs = c.in-Err-run_and_flush.ensures;
     })
     c.status_of_stop.ensures (rw c.query_text.ensures at c.tell_stop.ensures)
+
+pub returns-in-Ok-run_and_flush : goal.returns-in-Ok-run_and_flush
+returns-in-Ok-run_and_flush g c =
+    ended c.in-Ok-run_and_flush.tally
+    (record {
+      options = c.in-Ok.options;
+      request = request_of c.in-Ok.request;
+      profile = c.in-Ok.profile;
+      asks = search rules;
+      runs = c.in-Ok-run_and_flush.ensures;
+    })
+    c.status_of_end.ensures
