@@ -26,7 +26,7 @@ returns-in_err-flush-in-Written-clause-stopped g c =
     (sym c.in_err-flush-in-Written.ensures.write)
     (stops-flushing c.args.asked.options g.W.Writer.contents g.W.Writer.has_failed
     g.E.Writer.contents g.E.Writer.has_failed task c.args.number c.args.kept.now line is
-    _ c.answer.new.output _ _ (rw c.in-Written.is at c.in_ok-selected.ensures.answers)
+    c.in-Written.selected _ c.answer.new.output _ _ (rw c.in-Written.is at c.in_ok-selected.ensures.answers)
     c.flush.ensures.kept c.in_err-flush-in-Written.ensures.fails))
 
 pub returns-in_err-refuse-in-Refused-clause-stopped :
@@ -45,7 +45,7 @@ pub returns-in_ok-flush-in-Written-clause-treated : goal.returns-in_ok-flush-in-
 returns-in_ok-flush-in-Written-clause-treated g c = λ line is.
     treats-answered c.args.asked.options g.W.Writer.contents g.W.Writer.has_failed
     g.E.Writer.contents g.E.Writer.has_failed (task_of c.args.asked.task)
-    c.args.number c.args.kept.now line is _ c.answer.new.output _ _
+    c.args.number c.args.kept.now line is c.in-Written.selected _ c.answer.new.output _ _
     (rw c.in-Written.is at c.in_ok-selected.ensures.answers) c.flush.ensures.kept
     c.in_ok-flush-in-Written.ensures.works
 
