@@ -15,7 +15,7 @@ use Rattle.clap.specs.Walk.{is_empty}
 use Rattle.jp_check.specs.declared.profile.Profile.{Profile}
 use Rattle.jp_command.specs.CommandLine.{is_set, profile_asked, query_app, with_flag}
 use Rattle.jp_command.specs.declared.lines.Form.TheVariants.{Values, Paths, Both}
-use Rattle.jp_lines.specs.Request.{Request, SelectBy}
+use Rattle.jp_lines.specs.Request.{KeepBy, Request, SelectBy}
 use Rattle.jp_lines.specs.declared.options.Extent.{Extent}
 use Rattle.jp_lines.specs.declared.options.Extent.TheVariants.{All, First}
 use Rattle.jp_lines.specs.declared.options.Options.{Options}
@@ -49,11 +49,16 @@ lines_app name = with_flag (with_line_flags (query_app name)) (codes "first")
 abbrev pub with_lines : App → Text → App
 with_lines app name = with_subcommand app (lines_app name).top
 
+-- the subcommand whose one positional is the expression, with `--extended` and the flags of a run
+unfoldable pub keep_app : App
+keep_app = with_line_flags (with_flag (with_rule (new_app (codes "keep"))
+    (record (new_rule (codes "EXPRESSION")) { required = true })) (codes "extended"))
+
 -- `jp-lines` with its subcommands, one of which is required, and a version that it tells
 unfoldable pub jp_lines : App
 jp_lines = on_top (λ top. record top { subcommand_required = true; has_version = true })
-    (with_lines (with_lines (with_lines (with_lines (new_app (codes "jp-lines"))
-    (codes "eval")) (codes "paths")) (codes "both")) (codes "count"))
+    (with_subcommand (with_lines (with_lines (with_lines (with_lines (new_app (codes "jp-lines"))
+    (codes "eval")) (codes "paths")) (codes "both")) (codes "count")) keep_app.top)
 
 -- what a subcommand's name asks to be written of each document
 abbrev pub wanted_called : Text → Option Wanted
@@ -87,11 +92,17 @@ options_asked rows = record {
 abbrev pub extent_asked : List Row → Extent
 extent_asked rows = if is_set (codes "first") rows then First else All
 
--- what the subcommand of that name asks for
-abbrev pub request_by : Text → List Row → Option Request
-request_by name rows = option_and_then
+-- what the subcommand of that name asks for that selects nodes
+abbrev pub selection_by : Text → List Row → Option Request
+selection_by name rows = option_and_then
     (λ wanted. option_map (SelectBy wanted (extent_asked rows)) (first_of (codes "QUERY") rows))
     (wanted_called name)
+
+-- what the subcommand of that name asks for
+abbrev pub request_by : Text → List Row → Option Request
+request_by name rows = if bytes_eq name (codes "keep")
+    then option_map KeepBy (first_of (codes "EXPRESSION") rows)
+    else selection_by name rows
 
 -- the options, the request and the profile of the subcommand that the words name
 abbrev pub asked_by : Text × List Row → Option (Options × Request × Profile)

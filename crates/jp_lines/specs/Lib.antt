@@ -7,6 +7,7 @@ pub mod Reads
 pub mod Told
 pub mod Run
 pub mod CommandLine
+pub mod Expression
 pub mod Program
 pub mod Laws
 pub mod Private

@@ -1,12 +1,12 @@
 -- What a run does with each document: what is written of it, and whether something in it is selected.
-use Rattle.std.specs.Prelude.{ℕ, Bool, List, ◌++◌, codes, length, take}
+use Rattle.std.specs.Prelude.{ℕ, Bool, List, [], ◌++◌, codes, if◌then◌else◌, length, take}
 use Rattle.std.specs.Fmt.{decimal}
 use Rattle.std.specs.List.{flat_map}
 use Rattle.jp_command.specs.Lines.{line_behind}
-use Rattle.jp_document.specs.Node.{Node}
+use Rattle.jp_document.specs.Node.{Node, root_of}
 use Rattle.jp_document.specs.Value.{Value}
-use Rattle.jp_evaluate.specs.Nodelist.{has_node, nodelist}
-use Rattle.jp_tree.specs.Tree.{QueryTree}
+use Rattle.jp_evaluate.specs.Nodelist.{has_node, holds, nodelist}
+use Rattle.jp_tree.specs.Tree.{ExprTree, QueryTree}
 use Rattle.jp_lines.specs.declared.options.Extent.{Extent}
 use Rattle.jp_lines.specs.declared.options.Extent.TheVariants.{All, First}
 use Rattle.jp_lines.specs.declared.options.Wanted.{Wanted}
@@ -15,6 +15,9 @@ use Rattle.jp_lines.specs.declared.options.Wanted.TheVariants.{Nodes, Count}
 pub data Task : Type 0 where
   -- writes what is wanted of the nodes that the query selects
   Select : Wanted → Extent → QueryTree → Task
+  -- writes the line itself where the expression is true of the document, which is its root and its
+  -- current node (RFC 9535 section 2.3.5)
+  Keep : ExprTree → Task
 
 -- all nodes, or the first alone
 abbrev pub nodes_within : Extent → List Node → List Node
@@ -26,11 +29,18 @@ abbrev pub nodes_output : Wanted → List ℕ → List Node → List ℕ
 nodes_output (Nodes form) lead ns = flat_map (line_behind lead form) ns
 nodes_output Count lead ns = lead ++ decimal (length ns) ++ codes "\n"
 
+-- the expression is true of the document d
+abbrev pub is_kept : ExprTree → Value → Bool
+is_kept e d = holds e d (root_of d)
+
 -- what is written of the document d, which stands in this line of the input, behind such a lead
 abbrev pub written_for : Task → List ℕ → List ℕ → Value → List ℕ
 written_for (Select wanted extent q) lead line d =
     nodes_output wanted lead (nodes_within extent (nodelist q d))
+written_for (Keep e) lead line d =
+    if is_kept e d then lead ++ (line ++ codes "\n") else []
 
--- something is selected in the document d
+-- something is selected in the document d, or the document is kept
 abbrev pub selects : Task → Value → Bool
 selects (Select wanted extent q) d = has_node (nodelist q d)
+selects (Keep e) d = is_kept e d

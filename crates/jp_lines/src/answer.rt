@@ -95,6 +95,7 @@ pub(crate) fn answer<W: Writer>(
             }
             _ => answer_whole(asked, number, line, memory, output),
         },
+        Task::Keep(_) => answer_whole(asked, number, line, memory, output),
     }
 }
 

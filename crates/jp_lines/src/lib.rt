@@ -19,6 +19,7 @@ mod answer;
 mod count;
 mod defect;
 mod explaining;
+mod expression;
 pub mod laws;
 mod options;
 mod passing;

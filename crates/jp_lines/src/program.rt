@@ -7,12 +7,13 @@ ghost use Rattle.jp_command.specs.Output.{AppendsSome};
 ghost use Rattle.jp_lines.specs.Private.Telling.{Shows, StopsShowing, TellsRun};
 ghost use Rattle.jp_lines.specs.Program.{RunsAndFlushes, RunsProgram, TellsStop, status_of_end};
 ghost use Rattle.jp_lines.specs.Program.{is_shown, status_of_stop};
-ghost use Rattle.jp_lines.specs.Request.{SelectBy, query_text};
+ghost use Rattle.jp_lines.specs.Request.{KeepBy, SelectBy, query_text};
 ghost use Rattle.jp_lines.specs.Views.{request_of};
 ghost use Rattle.jp_lines.specs.declared.stop.Stop.TheVariants.{Run};
 
+use crate::expression::read_expression;
 use crate::options::{Extent, Options, Wanted};
-use crate::run::run_selected;
+use crate::run::{run_kept, run_selected};
 use crate::stop::Stop;
 use crate::tally::Tally;
 use crate::task::Request;
@@ -59,7 +60,7 @@ pub fn run_program<R: Source, W: Output, E: Writer>(
         ) {
             Ok(tally) => status_of_end(options, tally),
             Err(stop) => {
-                tell_stop(alloc, &stop, query_text(request), profile, faults);
+                tell_end(alloc, &stop, request, profile, faults);
                 status_of_stop(&stop)
             }
         },
@@ -121,6 +122,9 @@ fn run_and_flush<R: Source, W: Output, E: Writer>(
         Request::SelectBy(wanted, extent, query) => select_and_flush(
             alloc, wanted, extent, query, profile, options, input, output, faults,
         ),
+        Request::KeepBy(text) => {
+            keep_and_flush(alloc, text, profile, options, input, output, faults)
+        }
     }
 }
 
@@ -148,13 +152,23 @@ fn select_and_flush<R: Source, W: Output, E: Writer>(
     flush_ended(ended, output)
 }
 
-/// The text of the query that is asked.
-fn query_text<'w>(request: Request<'w>) -> &'w str
-    ensures { result.now ≡ query_text (request_of request.entry) }
+/// The same for the lines that an expression keeps.
+fn keep_and_flush<R: Source, W: Output, E: Writer>(
+    alloc: Global,
+    text: &str,
+    profile: Profile,
+    options: Options,
+    input: &mut R,
+    output: &mut W,
+    faults: &mut E,
+) -> Result<Tally, Stop>
+    ensures { RunsAndFlushes R.remaining R.has_failed R.read_gives
+        W.contents W.has_failed E.contents E.has_failed options profile (KeepBy text.now)
+        input.old input.new output.old output.new faults.old faults.new result }
 {
-    match request {
-        Request::SelectBy(_, _, query) => query,
-    }
+    let filter = read_expression(alloc, text, profile).map_err(Fault::from)?;
+    let ended = run_kept(alloc, &filter, options, input, output, faults);
+    flush_ended(ended, output)
 }
 
 /// Flushes the output of a run that has ended, unless a write has failed. Answers how the run ended, or
@@ -193,6 +207,23 @@ fn status_of_stop(stop: &Stop) -> u8
     match stop {
         Stop::Line(_) => LINE_REFUSED,
         Stop::Run(fault) => status(fault),
+    }
+}
+
+/// Tells why a run stopped. Only the refusal of a query is explained.
+fn tell_end<E: Writer>(
+    alloc: Global,
+    stop: &Stop,
+    request: Request<'_>,
+    profile: Profile,
+    faults: &mut E,
+)
+    ensures { TellsRun E.contents E.has_failed profile (query_text (request_of request.entry)) stop.now
+        faults.old faults.new }
+{
+    match request {
+        Request::SelectBy(_, _, query) => tell_stop(alloc, stop, query, profile, faults),
+        Request::KeepBy(_) => tell_line(alloc, stop, faults),
     }
 }
 

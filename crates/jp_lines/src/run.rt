@@ -2,13 +2,13 @@
 
 ghost use Rattle.std.specs.Prelude.{◌≡◌, IfOk, vec_len};
 ghost use Rattle.jp_check.specs.declared.profile.Profile.{Profile};
-ghost use Rattle.jp_tree.specs.Views.{query_of};
+ghost use Rattle.jp_tree.specs.Views.{expr_of, query_of};
 ghost use Rattle.jp_command.specs.Limits.{chunk_size};
 ghost use Rattle.jp_lines.specs.Private.Answers.{HasNamedLocation};
 ghost use Rattle.jp_lines.specs.Private.Asking.{RunsAsked};
 ghost use Rattle.jp_lines.specs.Request.{IsTaskOf, Request, SelectBy};
 ghost use Rattle.jp_lines.specs.Run.{RunsLines};
-ghost use Rattle.jp_lines.specs.Task.{Select};
+ghost use Rattle.jp_lines.specs.Task.{Keep, Select};
 ghost use Rattle.jp_lines.specs.Views.{task_of};
 ghost use Rattle.jp_lines.specs.declared.options.Extent.TheVariants as Extent;
 
@@ -18,7 +18,7 @@ use crate::passing::{Progress, end_line, pass};
 use crate::stop::Stop;
 use crate::tally::Tally;
 use crate::task::{Selection, Task};
-use jp_check::{Checked, Profile};
+use jp_check::{Checked, CheckedFilter, Profile};
 use jp_command::{Fault, Output, Source, Writer, read_within_limit};
 use jp_evaluate::named_location;
 use std::alloc::{AllocError, Global};
@@ -99,6 +99,29 @@ pub(crate) fn run_selected<R: Source, W: Output, E: Writer>(
     let asked = Asked {
         alloc,
         task: Task::Select(selection),
+        options,
+    };
+    pass_all(asked, input, output, faults)
+}
+
+/// The same of an expression that was read, whose lines are kept.
+pub(crate) fn run_kept<R: Source, W: Output, E: Writer>(
+    alloc: Global,
+    filter: &CheckedFilter,
+    options: Options,
+    input: &mut R,
+    output: &mut W,
+    faults: &mut E,
+) -> Result<Tally, Stop>
+    ensures { (profile : Profile) (request : Request)
+        → IsTaskOf profile request (Keep (expr_of filter.now.expr))
+        → RunsAsked profile options R.remaining R.has_failed R.read_gives
+        W.contents W.has_failed E.contents E.has_failed request
+        input.old input.new output.old output.new faults.old faults.new result }
+{
+    let asked = Asked {
+        alloc,
+        task: Task::Keep(filter),
         options,
     };
     pass_all(asked, input, output, faults)

@@ -1,7 +1,7 @@
 //! What a run does with each document.
 
 use crate::options::{Extent, Wanted};
-use jp_check::Checked;
+use jp_check::{Checked, CheckedFilter};
 use jp_document::Step;
 
 /// What is asked of each document, in the texts of the words.
@@ -9,12 +9,16 @@ use jp_document::Step;
 pub(crate) enum Request<'w> {
     /// To write what is wanted of the nodes that the query of this text selects.
     SelectBy(Wanted, Extent, &'w str),
+    /// To write the line where the expression of this text is true.
+    KeepBy(&'w str),
 }
 
 /// What a run does with each document.
 #[derive(Clone, Copy)]
 pub(crate) enum Task<'q> {
     Select(Selection<'q>),
+    /// Writes the line where the expression is true.
+    Keep(&'q CheckedFilter),
 }
 
 /// Writes what is wanted of the nodes that the query selects.

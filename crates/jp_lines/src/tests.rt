@@ -2,6 +2,7 @@
 
 mod devices;
 mod explained;
+mod keep;
 mod limits;
 mod programs;
 mod runs;

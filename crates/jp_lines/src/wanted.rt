@@ -2,7 +2,7 @@
 
 ghost use Rattle.std.specs.Prelude.{◌≡◌, ◌++◌, IfErr, IfOk, OnOk, codes, string_bytes};
 ghost use Rattle.std.specs.Fmt.{decimal};
-ghost use Rattle.jp_tree.specs.Views.{query_of};
+ghost use Rattle.jp_tree.specs.Views.{expr_of, query_of};
 ghost use Rattle.jp_select.specs.Steps.{Takes};
 ghost use Rattle.jp_evaluate.specs.Nodelist.{has_node, nodelist};
 ghost use Rattle.jp_evaluate.specs.Stopping.{StopsSpent};
@@ -10,7 +10,7 @@ ghost use Rattle.jp_command.specs.Found.{found_nodes};
 ghost use Rattle.jp_command.specs.Output.{StopsWriting, WritesAll};
 ghost use Rattle.jp_lines.specs.Outcome.{lead_of};
 ghost use Rattle.jp_lines.specs.Private.Limits.{IsAllowed, WritesOrGivesUp, most_within, stop_of};
-ghost use Rattle.jp_lines.specs.Task.{nodes_output, nodes_within, selects, written_for};
+ghost use Rattle.jp_lines.specs.Task.{Keep, is_kept, nodes_output, nodes_within, selects, written_for};
 ghost use Rattle.jp_lines.specs.Views.{task_of};
 
 use crate::answer::{Asked, Memory, Reply};
@@ -19,10 +19,12 @@ use crate::defect::Defect;
 use crate::options::{Extent, Wanted};
 use crate::task::{Selection, Task};
 use itoa::Buffer;
+use jp_check::CheckedFilter;
 use jp_command::{Fault, Spare, Writer, selected_lines, write_all, write_found, write_selected};
 use jp_document::Step;
-use jp_evaluate::EvaluationFault;
+use jp_evaluate::{EvaluationFault, Patterns, holds_of};
 use jp_lent::Selectable;
+use jp_match::Marks;
 use jp_select::Steps;
 use std::alloc::{AllocError, Global};
 
@@ -50,7 +52,54 @@ pub(crate) fn write_for<'d: 'q, 'q, V: Selectable + 'd, W: Writer>(
         Task::Select(selection) => {
             write_wanted(asked, selection, lead, root, &mut memory.spare, output)
         }
+        Task::Keep(filter) => {
+            let patterns = &mut memory.spare.patterns;
+            write_kept(asked, filter, lead, line, root, patterns, output)
+        }
     }
+}
+
+/// Writes the line behind the text `lead`, where the expression is true of its document.
+fn write_kept<'d: 'q, 'q, V: Selectable + 'd, W: Writer>(
+    asked: Asked<'q>,
+    filter: &'q CheckedFilter,
+    lead: &str,
+    line: &[u8],
+    root: V,
+    patterns: &mut Patterns,
+    output: &mut W,
+) -> Result<Answer, Fault>
+    ensures ok { IfOk result (WritesOrGivesUp W.contents W.has_failed asked.entry.options.limit
+        (is_kept (expr_of filter.entry.now.expr) (V.meaning root))
+        (written_for (Keep (expr_of filter.entry.now.expr)) lead.now line.now (V.meaning root))
+        output.old output.new) }
+    ensures stopped { IfErr result (StopsWriting W.contents W.has_failed output.old output.new
+        (written_for (Keep (expr_of filter.entry.now.expr)) lead.now line.now (V.meaning root))) }
+{
+    let allowed = allowed_by(asked.options.limit);
+    let mut steps = allowed;
+    match holds_of(asked.alloc, root, filter, &Marks, patterns, &mut steps) {
+        Ok(true) => {
+            write_line(lead, line, output)?;
+            Ok(Answer::Written(true))
+        }
+        Ok(false) => Ok(Answer::Written(false)),
+        Err(fault) => stop_of(fault, allowed.left() - steps.left()),
+    }
+}
+
+/// Writes a line of the input, and a newline behind it.
+fn write_line<W: Writer>(lead: &str, line: &[u8], output: &mut W) -> Result<(), Fault>
+    ensures ok { OnOk result (WritesAll W.contents W.has_failed output.old output.new
+        (lead.now ++ (line.now ++ codes "\n"))) }
+    ensures stopped { IfErr result (StopsWriting W.contents W.has_failed output.old output.new
+        (lead.now ++ (line.now ++ codes "\n"))) }
+{
+    if !lead.is_empty() {
+        write_bytes(lead.as_bytes(), output)?;
+    }
+    write_bytes(line, output)?;
+    write_bytes(b"\n", output)
 }
 
 /// The same of a selection, behind the text `lead`.
@@ -276,7 +325,16 @@ fn write_text<W: Writer>(text: &str, output: &mut W) -> Result<(), Fault>
     ensures stopped { IfErr result (StopsWriting W.contents W.has_failed output.old output.new
         text.now) }
 {
-    match write_all(output, text.as_bytes()) {
+    write_bytes(text.as_bytes(), output)
+}
+
+/// Writes bytes.
+fn write_bytes<W: Writer>(bytes: &[u8], output: &mut W) -> Result<(), Fault>
+    ensures ok { OnOk result (WritesAll W.contents W.has_failed output.old output.new bytes.now) }
+    ensures stopped { IfErr result (StopsWriting W.contents W.has_failed output.old output.new
+        bytes.now) }
+{
+    match write_all(output, bytes) {
         Ok(()) => Ok(()),
         Err(_) => Err(Fault::Write),
     }

@@ -1,16 +1,17 @@
 //! Reading the words of a command line.
 
 ghost use Rattle.std.specs.Prelude.{◌≡◌, ◌⊎◌, Some, None, IfOk, IfErr, [], false, map};
-ghost use Rattle.std.specs.Prelude.{option_and_then, option_map, string_bytes};
-ghost use Rattle.clap.specs.Words.{IsAmong, app_of, fault_of, found_of, kind_of, rows_of};
+ghost use Rattle.std.specs.Prelude.{codes, option_and_then, option_map, string_bytes};
+ghost use Rattle.clap.specs.Words.{IsAmong, app_of, fault_of, first_of, found_of, kind_of, rows_of};
 ghost use Rattle.clap.specs.Words.{subcommand_of, subcommand_rows_of};
 ghost use Rattle.clap.specs.declared.builder.command.Command.TheViews.{out-Command};
 ghost use Rattle.clap.specs.declared.error.kind.ErrorKind.TheVariants.{MissingSubcommand, OutOfMemory};
 ghost use Rattle.jp_lines.specs.CommandLine.{asked, asked_by, jp_lines, lines_app};
 ghost use Rattle.jp_lines.specs.CommandLine.{extent_asked, limit_asked, options_asked, request_by};
-ghost use Rattle.jp_lines.specs.CommandLine.{wanted_called};
+ghost use Rattle.jp_lines.specs.CommandLine.{keep_app, selection_by, wanted_called};
 ghost use Rattle.jp_lines.specs.CommandLine.{with_limit, with_line_flags, with_lines};
 ghost use Rattle.jp_lines.specs.Private.Words.{IsNoCommand};
+ghost use Rattle.jp_lines.specs.Request.{KeepBy};
 ghost use Rattle.jp_lines.specs.Views.{request_of};
 
 use crate::options::{Extent, Options, Wanted};
@@ -26,9 +27,10 @@ const VERSION: &str = "0.1.0";
 
 /// What help says below the subcommands.
 const AFTER_HELP: &str = "\
-Each command takes one QUERY and runs it over each line of standard input, which is one JSON
-document. Lines of blanks alone hold none. A line that is no document ends the run, unless
---keep-going is given. With --limit, so does one whose document takes more steps than N.
+Each command takes one QUERY, and keep one EXPRESSION, and runs it over each line of standard
+input, which is one JSON document. Lines of blanks alone hold none. A line that is no document
+ends the run, unless --keep-going is given. With --limit, so does one whose document takes more
+steps than N.
 A refused query is explained, and with --explain a line that is no document, too.
 
 Example: printf '{\"a\":1}\\n{\"a\":2}\\n' | jp-lines eval '$.a'
@@ -59,6 +61,12 @@ const COUNT: CommandHelp = CommandHelp {
     about: "Writes how many nodes each document has selected",
     usage: "jp-lines count [OPTIONS] <QUERY> < FILE",
     example: "Example: printf '[1]\\n[2,3]\\n' | jp-lines count '$.*'",
+};
+
+const KEEP: CommandHelp = CommandHelp {
+    about: "Writes each line whose document makes the expression true",
+    usage: "jp-lines keep [OPTIONS] <EXPRESSION> < FILE",
+    example: "Example: printf '{\"a\":1}\\n{\"a\":2}\\n' | jp-lines keep '@.a > 1'",
 };
 
 /// What a subcommand's name asks to be written of each document.
@@ -161,6 +169,29 @@ fn with_lines<'w>(
     command.subcommand(lines_command(alloc, name, help)?)
 }
 
+/// The subcommand with an expression, all flags but `--first`, and the limit.
+#[tactic(auto, unfolding(crate::specs::CommandLine::keep_app))]
+fn keep_command<'w>(alloc: Global) -> Result<Command<'w>, AllocError>
+    ensures shape { IfOk result (λ command. app_of command ≡ keep_app) }
+    ensures local { IfOk result (λ command. (out-Command command).has_globals ≡ false) }
+{
+    let expression = Arg::new(alloc, "EXPRESSION")
+        .required(true)
+        .help("An expression of a filter, such as '@.a > 1'; @ and $ are the document");
+    let command = Command::new(alloc, "keep")
+        .about(KEEP.about)
+        .override_usage(KEEP.usage)
+        .after_help(KEEP.example)
+        .arg(expression)?;
+    let command = with_flag(
+        alloc,
+        command,
+        "extended",
+        "Lets the expression call distinct",
+    )?;
+    with_line_flags(alloc, command)
+}
+
 /// The whole command line.
 #[tactic(auto, unfolding(crate::specs::CommandLine::jp_lines))]
 fn jp_lines_command<'w>(alloc: Global) -> Result<Command<'w>, AllocError>
@@ -174,6 +205,7 @@ fn jp_lines_command<'w>(alloc: Global) -> Result<Command<'w>, AllocError>
     let command = with_lines(alloc, command, "paths", PATHS)?;
     let command = with_lines(alloc, command, "both", BOTH)?;
     let command = with_lines(alloc, command, "count", COUNT)?;
+    let command = command.subcommand(keep_command(alloc)?)?;
     Ok(command.subcommand_required(true))
 }
 
@@ -224,6 +256,25 @@ fn extent_asked(found: &ArgMatches) -> Extent
 /// What the subcommand `name` with the matches `found` asks for of each document.
 fn request_by<'w>(name: &str, found: &ArgMatches<'w>) -> Option<Request<'w>>
     ensures { option_map request_of result ≡ request_by name.now (rows_of (found_of found.now)) }
+{
+    match name {
+        "keep" => keep_by(found),
+        _ => selection_by(name, found),
+    }
+}
+
+/// What the subcommand `keep` with the matches `found` asks for.
+fn keep_by<'w>(found: &ArgMatches<'w>) -> Option<Request<'w>>
+    ensures { option_map request_of result
+        ≡ option_map KeepBy (first_of (codes "EXPRESSION") (rows_of (found_of found.now))) }
+{
+    let expression = found.get_str("EXPRESSION")?;
+    Some(Request::KeepBy(expression))
+}
+
+/// What another subcommand asks for.
+fn selection_by<'w>(name: &str, found: &ArgMatches<'w>) -> Option<Request<'w>>
+    ensures { option_map request_of result ≡ selection_by name.now (rows_of (found_of found.now)) }
 {
     let wanted = wanted_named(name)?;
     let query = found.get_str("QUERY")?;

@@ -28,6 +28,7 @@ defect_of fault = Ok (reply.Refused (Document fault))
 abbrev pub HasNamedLocation : coded.Task → Type 0
 HasNamedLocation (tasks.Select selection) = IfSome selection.location
     (λ l. NamesLocation (query_of selection.query.now.query) (map step_of l.now))
+HasNamedLocation (tasks.Keep filter) = Unit {0}
 
 -- o and p are the output before and after
 module _ {W : Type 0} (contents : W → Option (List ℕ)) (has_failed : W → Bool) (options : Options)

@@ -192,12 +192,14 @@ fn long_query(alloc: Global) -> Result<String, AllocError> {
 
 #[test]
 fn refuses_words_that_name_no_run(rt: HostRuntime) -> Result<(), AllocError> {
-    let lines: [&[&str]; 12] = [
+    let lines: [&[&str]; 14] = [
         &["jp-lines"],
         &["jp-lines", "check", "$"],
         &["jp-lines", "eval"],
         &["jp-lines", "eval", "$", "$"],
         &["jp-lines", "eval", "--number", "--number", "$"],
+        &["jp-lines", "keep"],
+        &["jp-lines", "keep", "--first", "@"],
         &["jp-lines", "eval", "--limit"],
         &["jp-lines", "eval", "--limit", "$"],
         &["jp-lines", "eval", "--limit", "0", "$"],
@@ -234,6 +236,10 @@ const SHOWN: &[(&[&str], &str)] = &[
         "\nExample: printf '{\"a\":1}\\n{\"a\":2}\\n' | jp-lines eval '$.a'\n",
     ),
     (&["jp-lines", "--version"], "jp-lines 0.1.0\n"),
+    (
+        &["jp-lines", "keep", "--help"],
+        "\nExample: printf '{\"a\":1}\\n{\"a\":2}\\n' | jp-lines keep '@.a > 1'\n",
+    ),
     (
         &["jp-lines", "eval", "--help"],
         "\nExample: printf '[1]\\n[2]\\n' | jp-lines eval '$[0]'\n",
