@@ -109,28 +109,35 @@ fn run(task: &str, value: &Value, out: Lines) -> io::Result<()> {
     }
 }
 
-type Task = Box<dyn Fn(&Value, Lines) -> io::Result<()>>;
+type Task = Box<dyn Fn(&Value, &[u8], Lines) -> io::Result<()>>;
 
-/// What is done with the document of each line.
+/// What is done with the document of each line, and with the line.
 fn task_over_lines(task: &str) -> Option<Task> {
     Some(match task {
-        "lines: $.user.name" => Box::new(|value, out| match value["user"].get("name") {
+        "lines: $.user.name" => Box::new(|value, _, out| match value["user"].get("name") {
             Some(name) => line(out, name),
             None => Ok(()),
         }),
-        "lines: filter over items" => Box::new(|value, out| {
+        "lines: filter over items" => Box::new(|value, _, out| {
             of_each(out, &value["items"], |item| {
                 if item.get("price")?.as_u64()? < 10 { item.get("sku") } else { None }
             })
         }),
         "lines: search over members" => {
             let pattern = Regex::new("timeout|refused").expect("a pattern");
-            Box::new(move |value, out| {
+            Box::new(move |value, _, out| {
                 of_each(out, value, |member| {
                     if pattern.is_match(member.as_str()?) { Some(member) } else { None }
                 })
             })
         }
+        "lines: keep" => Box::new(|value, text, out| {
+            let is_error = value["level"].as_str() == Some("error");
+            if is_error && value["user"]["id"].as_u64().is_some_and(|id| id < 500_000) {
+                out.write_all(text)?;
+            }
+            Ok(())
+        }),
         _ => return None,
     })
 }
@@ -139,7 +146,7 @@ fn run_over_lines(task: Task, out: Lines) -> io::Result<()> {
     let mut input = io::BufReader::with_capacity(65_536, io::stdin().lock());
     let mut text = Vec::new();
     while input.read_until(b'\n', &mut text)? > 0 {
-        task(&serde_json::from_slice(&text)?, out)?;
+        task(&serde_json::from_slice(&text)?, &text, out)?;
         text.clear();
     }
     Ok(())

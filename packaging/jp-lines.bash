@@ -1,4 +1,5 @@
-# Completion of jp-lines for bash: its subcommands and its flags. A query can't be completed.
+# Completion of jp-lines for bash: its subcommands and its flags. A query or an expression can't be
+# completed.
 
 _jp_lines() {
     local word=${COMP_WORDS[COMP_CWORD]}
@@ -7,7 +8,7 @@ _jp_lines() {
     if [[ ${COMP_WORDS[COMP_CWORD - 1]} =~ ^[0-9]*[\<\>]+$ ]]; then
         compopt -o default
     elif [ "$COMP_CWORD" -eq 1 ]; then
-        mapfile -t COMPREPLY < <(compgen -W "eval paths both count" -- "$word")
+        mapfile -t COMPREPLY < <(compgen -W "eval paths both count keep" -- "$word")
     elif [[ $word == -* ]]; then
         mapfile -t COMPREPLY < <(compgen -W "$(_jp_lines_flags)" -- "$word")
     fi
@@ -18,6 +19,7 @@ _jp_lines_flags() {
     local flag before=" ${COMP_WORDS[*]:2:COMP_CWORD-2} "
     [[ $before != *" -- "* ]] || return 0
     for flag in --extended --number --first --keep-going --line-buffered --explain --exit-status --limit; do
+        [[ ${COMP_WORDS[1]} != keep || $flag != --first ]] || continue
         [[ $before == *" $flag "* ]] || echo "$flag"
     done
 }
