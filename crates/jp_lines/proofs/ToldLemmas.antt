@@ -1,10 +1,12 @@
 -- What is written or told in two steps.
 use Rattle.std.proofs.Common.{◌≡◌, ℕ, Bool, true, false, List, [], ◌++◌, Option, Some, None, Result}
-use Rattle.std.proofs.Common.{Ok, Err, OnOk, OnErr}
+use Rattle.std.proofs.Common.{Ok, Err, IfErr, OnOk, OnErr}
 use Rattle.std.proofs.Common.{subst, refl, sym, ◌∙◌, ap, append_assoc}
 use Rattle.std.proofs.lemmas.List.{append-nil}
 use Rattle.std.specs.Io.KnownBytes.{Appends}
-use Rattle.jp_command.specs.Output.{AppendsPrefix, WritesAll}
+use Rattle.jp_command.specs.Output.{AppendsPrefix, StopsWriting, WritesAll}
+use Rattle.jp_command.specs.declared.fault.Fault.{Fault}
+use Rattle.jp_command.specs.declared.fault.Fault.TheVariants as fault
 use Rattle.jp_command.proofs.Streams.{Appends-twice}
 use Rattle.jp_lines.specs.Told.{Tells, whole, part, nothing}
 
@@ -40,6 +42,33 @@ module _ {W : Type 0} (contents : W → Option (List ℕ)) (has_failed : W → B
     written = Appends-twice _ _ _ x y first.written second.written;
     works = second.works ∙ first.works;
   }
+
+  -- where the first of two writes stops, and where the second does
+  pub stops-first : (o p : W) (x y : List ℕ) (f : Fault) → StopsWriting contents has_failed o p x f
+      → StopsWriting contents has_failed o p (x ++ y) f
+  stops-first o p x y fault.NoMemory stops = (prefix-longer _ _ x y stops.0, stops.1)
+  stops-first o p x y fault.Write stops = (prefix-longer _ _ x y stops.0, stops.1)
+  stops-first o p x y (fault.Query r) stops = absurd stops
+  stops-first o p x y (fault.Document f) stops = absurd stops
+  stops-first o p x y fault.DocumentTooLarge stops = absurd stops
+  stops-first o p x y fault.Read stops = absurd stops
+
+  pub stops-second : (o p r : W) (x y : List ℕ) (f : Fault) → WritesAll contents has_failed o p x
+      → StopsWriting contents has_failed p r y f → StopsWriting contents has_failed o r (x ++ y) f
+  stops-second o p r x y fault.NoMemory first stops =
+      (prefix-after _ _ _ x y first.written stops.0, stops.1 ∙ first.works)
+  stops-second o p r x y fault.Write first stops =
+      (prefix-after _ _ _ x y first.written stops.0, stops.1)
+  stops-second o p r x y (fault.Query q) first stops = absurd stops
+  stops-second o p r x y (fault.Document f) first stops = absurd stops
+  stops-second o p r x y fault.DocumentTooLarge first stops = absurd stops
+  stops-second o p r x y fault.Read first stops = absurd stops
+
+  pub stops-result : {X : Type 0} (o p r : W) (x y : List ℕ) (answer : Result X Fault)
+      → WritesAll contents has_failed o p x → IfErr answer (StopsWriting contents has_failed p r y)
+      → IfErr answer (StopsWriting contents has_failed o r (x ++ y))
+  stops-result o p r x y (Ok v) first stops = tt
+  stops-result o p r x y (Err f) first stops = stops-second o p r x y f first stops
 
 module _ {E : Type 0} (reports : E → Option (List ℕ)) (has_failed : E → Bool) where
   abbrev Told : E → E → List ℕ → Type 0

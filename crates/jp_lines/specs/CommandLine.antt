@@ -54,11 +54,15 @@ unfoldable pub keep_app : App
 keep_app = with_line_flags (with_flag (with_rule (new_app (codes "keep"))
     (record (new_rule (codes "EXPRESSION")) { required = true })) (codes "extended"))
 
+-- the command with that subcommand more
+abbrev pub with_keep : App → App
+with_keep app = with_subcommand app keep_app.top
+
 -- `jp-lines` with its subcommands, one of which is required, and a version that it tells
 unfoldable pub jp_lines : App
 jp_lines = on_top (λ top. record top { subcommand_required = true; has_version = true })
-    (with_subcommand (with_lines (with_lines (with_lines (with_lines (new_app (codes "jp-lines"))
-    (codes "eval")) (codes "paths")) (codes "both")) (codes "count")) keep_app.top)
+    (with_keep (with_lines (with_lines (with_lines (with_lines (new_app (codes "jp-lines"))
+    (codes "eval")) (codes "paths")) (codes "both")) (codes "count")))
 
 -- what a subcommand's name asks to be written of each document
 abbrev pub wanted_called : Text → Option Wanted

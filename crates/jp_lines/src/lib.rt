@@ -20,6 +20,7 @@ mod count;
 mod defect;
 mod explaining;
 mod expression;
+mod keeping;
 pub mod laws;
 mod options;
 mod passing;

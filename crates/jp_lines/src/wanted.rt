@@ -2,7 +2,7 @@
 
 ghost use Rattle.std.specs.Prelude.{◌≡◌, ◌++◌, IfErr, IfOk, OnOk, codes, string_bytes};
 ghost use Rattle.std.specs.Fmt.{decimal};
-ghost use Rattle.jp_tree.specs.Views.{expr_of, query_of};
+ghost use Rattle.jp_tree.specs.Views.{query_of};
 ghost use Rattle.jp_select.specs.Steps.{Takes};
 ghost use Rattle.jp_evaluate.specs.Nodelist.{has_node, nodelist};
 ghost use Rattle.jp_evaluate.specs.Stopping.{StopsSpent};
@@ -10,21 +10,20 @@ ghost use Rattle.jp_command.specs.Found.{found_nodes};
 ghost use Rattle.jp_command.specs.Output.{StopsWriting, WritesAll};
 ghost use Rattle.jp_lines.specs.Outcome.{lead_of};
 ghost use Rattle.jp_lines.specs.Private.Limits.{IsAllowed, WritesOrGivesUp, most_within, stop_of};
-ghost use Rattle.jp_lines.specs.Task.{Keep, is_kept, nodes_output, nodes_within, selects, written_for};
+ghost use Rattle.jp_lines.specs.Task.{nodes_output, nodes_within, selects, written_for};
 ghost use Rattle.jp_lines.specs.Views.{task_of};
 
 use crate::answer::{Asked, Memory, Reply};
 use crate::count::count_selected;
 use crate::defect::Defect;
+use crate::keeping::write_kept;
 use crate::options::{Extent, Wanted};
 use crate::task::{Selection, Task};
 use itoa::Buffer;
-use jp_check::CheckedFilter;
 use jp_command::{Fault, Spare, Writer, selected_lines, write_all, write_found, write_selected};
 use jp_document::Step;
-use jp_evaluate::{EvaluationFault, Patterns, holds_of};
+use jp_evaluate::EvaluationFault;
 use jp_lent::Selectable;
-use jp_match::Marks;
 use jp_select::Steps;
 use std::alloc::{AllocError, Global};
 
@@ -57,49 +56,6 @@ pub(crate) fn write_for<'d: 'q, 'q, V: Selectable + 'd, W: Writer>(
             write_kept(asked, filter, lead, line, root, patterns, output)
         }
     }
-}
-
-/// Writes the line behind the text `lead`, where the expression is true of its document.
-fn write_kept<'d: 'q, 'q, V: Selectable + 'd, W: Writer>(
-    asked: Asked<'q>,
-    filter: &'q CheckedFilter,
-    lead: &str,
-    line: &[u8],
-    root: V,
-    patterns: &mut Patterns,
-    output: &mut W,
-) -> Result<Answer, Fault>
-    ensures ok { IfOk result (WritesOrGivesUp W.contents W.has_failed asked.entry.options.limit
-        (is_kept (expr_of filter.entry.now.expr) (V.meaning root))
-        (written_for (Keep (expr_of filter.entry.now.expr)) lead.now line.now (V.meaning root))
-        output.old output.new) }
-    ensures stopped { IfErr result (StopsWriting W.contents W.has_failed output.old output.new
-        (written_for (Keep (expr_of filter.entry.now.expr)) lead.now line.now (V.meaning root))) }
-{
-    let allowed = allowed_by(asked.options.limit);
-    let mut steps = allowed;
-    match holds_of(asked.alloc, root, filter, &Marks, patterns, &mut steps) {
-        Ok(true) => {
-            write_line(lead, line, output)?;
-            Ok(Answer::Written(true))
-        }
-        Ok(false) => Ok(Answer::Written(false)),
-        Err(fault) => stop_of(fault, allowed.left() - steps.left()),
-    }
-}
-
-/// Writes a line of the input, and a newline behind it.
-fn write_line<W: Writer>(lead: &str, line: &[u8], output: &mut W) -> Result<(), Fault>
-    ensures ok { OnOk result (WritesAll W.contents W.has_failed output.old output.new
-        (lead.now ++ (line.now ++ codes "\n"))) }
-    ensures stopped { IfErr result (StopsWriting W.contents W.has_failed output.old output.new
-        (lead.now ++ (line.now ++ codes "\n"))) }
-{
-    if !lead.is_empty() {
-        write_bytes(lead.as_bytes(), output)?;
-    }
-    write_bytes(line, output)?;
-    write_bytes(b"\n", output)
 }
 
 /// The same of a selection, behind the text `lead`.
@@ -189,7 +145,7 @@ fn most_within(extent: Extent) -> Option<u64>
 }
 
 /// The steps that the evaluation over one document may make.
-fn allowed_by(limit: Option<u64>) -> Steps
+pub(crate) fn allowed_by(limit: Option<u64>) -> Steps
     ensures { IsAllowed limit result }
 {
     match limit {
@@ -200,7 +156,7 @@ fn allowed_by(limit: Option<u64>) -> Steps
 
 /// What an evaluation that was given up after so many steps means for the line: a defect, or that
 /// memory ran out.
-fn stop_of(fault: EvaluationFault, made: u64) -> Result<Reply, Fault>
+pub(crate) fn stop_of(fault: EvaluationFault, made: u64) -> Result<Reply, Fault>
     ensures { result ≡ stop_of fault made }
 {
     match fault {
@@ -320,7 +276,7 @@ fn write_count<W: Writer>(
 }
 
 /// Writes a text.
-fn write_text<W: Writer>(text: &str, output: &mut W) -> Result<(), Fault>
+pub(crate) fn write_text<W: Writer>(text: &str, output: &mut W) -> Result<(), Fault>
     ensures ok { OnOk result (WritesAll W.contents W.has_failed output.old output.new text.now) }
     ensures stopped { IfErr result (StopsWriting W.contents W.has_failed output.old output.new
         text.now) }
@@ -329,7 +285,7 @@ fn write_text<W: Writer>(text: &str, output: &mut W) -> Result<(), Fault>
 }
 
 /// Writes bytes.
-fn write_bytes<W: Writer>(bytes: &[u8], output: &mut W) -> Result<(), Fault>
+pub(crate) fn write_bytes<W: Writer>(bytes: &[u8], output: &mut W) -> Result<(), Fault>
     ensures ok { OnOk result (WritesAll W.contents W.has_failed output.old output.new bytes.now) }
     ensures stopped { IfErr result (StopsWriting W.contents W.has_failed output.old output.new
         bytes.now) }

@@ -8,7 +8,7 @@ ghost use Rattle.clap.specs.declared.builder.command.Command.TheViews.{out-Comma
 ghost use Rattle.clap.specs.declared.error.kind.ErrorKind.TheVariants.{MissingSubcommand, OutOfMemory};
 ghost use Rattle.jp_lines.specs.CommandLine.{asked, asked_by, jp_lines, lines_app};
 ghost use Rattle.jp_lines.specs.CommandLine.{extent_asked, limit_asked, options_asked, request_by};
-ghost use Rattle.jp_lines.specs.CommandLine.{keep_app, selection_by, wanted_called};
+ghost use Rattle.jp_lines.specs.CommandLine.{keep_app, selection_by, wanted_called, with_keep};
 ghost use Rattle.jp_lines.specs.CommandLine.{with_limit, with_line_flags, with_lines};
 ghost use Rattle.jp_lines.specs.Private.Words.{IsNoCommand};
 ghost use Rattle.jp_lines.specs.Request.{KeepBy};
@@ -175,9 +175,9 @@ fn keep_command<'w>(alloc: Global) -> Result<Command<'w>, AllocError>
     ensures shape { IfOk result (λ command. app_of command ≡ keep_app) }
     ensures local { IfOk result (λ command. (out-Command command).has_globals ≡ false) }
 {
-    let expression = Arg::new(alloc, "EXPRESSION")
-        .required(true)
-        .help("An expression of a filter, such as '@.a > 1'; @ and $ are the document");
+    let expression = Arg::new(alloc, "EXPRESSION").required(true).help(
+        "An expression of a filter, such as '@.a > 1'; @ and $ are the document",
+    );
     let command = Command::new(alloc, "keep")
         .about(KEEP.about)
         .override_usage(KEEP.usage)
@@ -190,6 +190,13 @@ fn keep_command<'w>(alloc: Global) -> Result<Command<'w>, AllocError>
         "Lets the expression call distinct",
     )?;
     with_line_flags(alloc, command)
+}
+
+/// The command with that subcommand more.
+fn with_keep<'w>(alloc: Global, command: Command<'w>) -> Result<Command<'w>, AllocError>
+    ensures { IfOk result (λ more. app_of more ≡ with_keep (app_of command.entry)) }
+{
+    command.subcommand(keep_command(alloc)?)
 }
 
 /// The whole command line.
@@ -205,7 +212,7 @@ fn jp_lines_command<'w>(alloc: Global) -> Result<Command<'w>, AllocError>
     let command = with_lines(alloc, command, "paths", PATHS)?;
     let command = with_lines(alloc, command, "both", BOTH)?;
     let command = with_lines(alloc, command, "count", COUNT)?;
-    let command = command.subcommand(keep_command(alloc)?)?;
+    let command = with_keep(alloc, command)?;
     Ok(command.subcommand_required(true))
 }
 

@@ -30,12 +30,14 @@ fn keeps_lines_byte_for_byte(rt: HostRuntime) -> Result<(), AllocError> {
     let rows: [(&[&str], &str); 9] = [
         (&["jp-lines", "keep", severe], SEVERE),
         (&["jp-lines", "keep", "--keep-going", severe], SEVERE),
+        (&["jp-lines", "keep", "--keep-going", "$.status == 7"], last),
         (
-            &["jp-lines", "keep", "--keep-going", "$.status == 7"],
-            last,
-        ),
-        (
-            &["jp-lines", "keep", "--keep-going", "@.tags[?@ == 'b'] || !@.level"],
+            &[
+                "jp-lines",
+                "keep",
+                "--keep-going",
+                "@.tags[?@ == 'b'] || !@.level",
+            ],
             last,
         ),
         (
@@ -43,18 +45,37 @@ fn keeps_lines_byte_for_byte(rt: HostRuntime) -> Result<(), AllocError> {
             last,
         ),
         (
-            &["jp-lines", "keep", "--keep-going", "--extended", "distinct(@.tags[*])"],
+            &[
+                "jp-lines",
+                "keep",
+                "--keep-going",
+                "--extended",
+                "distinct(@.tags[*])",
+            ],
             last,
         ),
         (
-            &["jp-lines", "keep", "--keep-going", "--number", "search(@.level, 'err')"],
+            &[
+                "jp-lines",
+                "keep",
+                "--keep-going",
+                "--number",
+                "search(@.level, 'err')",
+            ],
             errors,
         ),
         (&["jp-lines", "keep", "--keep-going", "!(@.level)"], ""),
-        (&["jp-lines", "keep", "--line-buffered", "@.level < 'b'"], ""),
+        (
+            &["jp-lines", "keep", "--line-buffered", "@.level < 'b'"],
+            "",
+        ),
     ];
     for (line, written) in rows {
-        let flushes = if line.contains(&"--line-buffered") { 5 } else { 1 };
+        let flushes = if line.contains(&"--line-buffered") {
+            5
+        } else {
+            1
+        };
         assert_ends(
             &rt,
             rt.alloc(),
@@ -79,7 +100,10 @@ fn keeps_the_same_however_many_bytes_a_read_gives(rt: HostRuntime) -> Result<(),
         };
         let ended = run_program(
             rt.alloc(),
-            words(rt.alloc(), &["jp-lines", "keep", "@.status >= 500", "--keep-going"])?,
+            words(
+                rt.alloc(),
+                &["jp-lines", "keep", "@.status >= 500", "--keep-going"],
+            )?,
             &mut Device::new(input),
             &mut Device::new(&mut output),
             &mut Device::new(&mut faults),
@@ -153,7 +177,10 @@ fn assert_prefix(rt: &impl Abort, alloc: Global, room: usize) -> Result<(), Allo
     let mut faults = Narrow::new(alloc, usize::MAX);
     let ended = run_program(
         alloc,
-        words(alloc, &["jp-lines", "keep", "--keep-going", "@.status >= 500"])?,
+        words(
+            alloc,
+            &["jp-lines", "keep", "--keep-going", "@.status >= 500"],
+        )?,
         &mut Device::new(LOG.as_bytes()),
         &mut Device::new(&mut output),
         &mut Device::new(&mut faults),
@@ -177,7 +204,14 @@ fn gives_a_document_up_that_needs_more_steps(rt: HostRuntime) -> Result<(), Allo
     assert_ends(
         &rt,
         rt.alloc(),
-        &["jp-lines", "keep", "--keep-going", "--limit", "12", "@[?@ == 3]"],
+        &[
+            "jp-lines",
+            "keep",
+            "--keep-going",
+            "--limit",
+            "12",
+            "@[?@ == 3]",
+        ],
         "[3]\n[1,1,1,1,1,1,1,1,1,3]\n[1,3]\n",
         false,
         (

@@ -14,7 +14,7 @@ returns-in-Ok g c =
       asks = search rules;
       runs = c.in-Err-run_and_flush.ensures;
     })
-    c.status_of_stop.ensures (rw c.query_text.ensures at c.tell_stop.ensures)
+    c.status_of_stop.ensures c.tell_end.ensures
 
 pub returns-in-Ok-run_and_flush : goal.returns-in-Ok-run_and_flush
 returns-in-Ok-run_and_flush g c =

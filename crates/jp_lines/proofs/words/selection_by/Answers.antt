@@ -4,7 +4,7 @@ use Rattle.jp_command.proofs.Matches.{with_query}
 use Rattle.jp_lines.specs.CommandLine.{extent_asked, wanted_called}
 use Rattle.jp_lines.specs.Request.{SelectBy}
 use Rattle.jp_lines.specs.Views.{request_of}
-use Rattle.jp_lines.proofs.words.request_by.Goals as goal
+use Rattle.jp_lines.proofs.words.selection_by.Goals as goal
 
 pub returns-in_err-query : goal.returns-in_err-query
 returns-in_err-query c =
