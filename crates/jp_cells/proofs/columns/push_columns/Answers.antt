@@ -1,0 +1,56 @@
+use Rattle.std.proofs.Common.{◌≡◌, ◌||◌, ◌≤◌, ◌++◌, ◌∙◌, ap, sym, take, arith, length, map, rules, string_bytes}
+use Rattle.std.specs.List.{join_with_byte}
+use Rattle.std.proofs.lemmas.List.{length-map, take_all}
+use Rattle.jp_tree.specs.Views.{query_of}
+use Rattle.jp_evaluate.specs.Nodelist.{has_node, nodelist}
+use Rattle.jp_select.proofs.Stepping.{takes_then}
+use Rattle.jp_cells.specs.Columns.{cell_of, some_node_in}
+use Rattle.jp_cells.specs.Fields.{field_text}
+use Rattle.jp_cells.specs.Rows.{separator}
+use Rattle.jp_cells.proofs.Joining.{all-taken, goes-on, some-more}
+use Rattle.jp_cells.proofs.columns.push_columns.Goals as goal
+
+pub loop-column-preserved : goal.loop-column-preserved
+loop-column-preserved g c =
+    let style = c.args.style in
+    let d = g.V.Lent.meaning c.args.root in
+    let at = c.index-queries-column.result in
+    record {
+      cells =
+          goes-on (separator style.format) (λ q. field_text style (cell_of style.raw d q))
+          (λ k. query_of k.query) c.args.queries.now c.loop-column.column at _ _ _ _
+          c.loop-column-test.true c.loop-column.invariant.cells c.in_ok-push_separator.ensures
+          (c.in_ok-some.ensures.cell
+          ∙ ap (λ k. string_bytes c.push_separator.new.row
+          ++ field_text style (cell_of style.raw d (query_of k.query))) c.index-queries-column.is);
+      selected =
+          ap (λ b. b || c.in_ok-some.some) c.loop-column.invariant.selected
+          ∙ ap (λ b. some_node_in d (take c.loop-column.column
+          (map (λ k. query_of k.query) c.args.queries.now)) || b)
+          (c.in_ok-some.ensures.selected
+          ∙ ap (λ k. has_node (nodelist (query_of k.query) d)) c.index-queries-column.is)
+          ∙ sym (some-more (λ q. has_node (nodelist q d)) (λ k. query_of k.query) c.args.queries.now
+          c.loop-column.column at c.loop-column-test.true);
+      taken = takes_then c.loop-column.invariant.taken c.push_column.ensures.takes;
+    }
+
+pub returns-clause-row : goal.returns-clause-row
+returns-clause-row g c =
+    let style = c.args.style in
+    let d = g.V.Lent.meaning c.args.root in
+    let qs = map (λ k. query_of k.query) c.args.queries.now in
+    let from_begin : length (string_bytes c.args.row.now) ≡ c.len-begin.result = search rules in
+    let raised : length c.args.queries.now ≤ c.loop-column.column = omega (arith, c.loop-column-test.false) in
+    c.in_ok-end_row.ensures (string_bytes c.args.row.now)
+    (join_with_byte (separator style.format) (map (field_text style) (map (cell_of style.raw d) qs)))
+    (rw (all-taken (field_text style) (cell_of style.raw d) (λ k. query_of k.query) c.args.queries.now c.loop-column.column raised)
+    at c.loop-column.invariant.cells)
+    from_begin
+
+pub returns-clause-selected : goal.returns-clause-selected
+returns-clause-selected g c =
+    let whole : length c.args.queries.now ≤ c.loop-column.column =
+    omega (arith, c.loop-column-test.false) in
+    let all = map (λ k. query_of k.query) c.args.queries.now in
+    c.loop-column.invariant.selected
+    ∙ ap (some_node_in (g.V.Lent.meaning c.args.root)) (take_all c.loop-column.column all (simp length-map whole))

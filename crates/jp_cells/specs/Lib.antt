@@ -1,0 +1,5 @@
+pub mod Cells
+pub mod Fields
+pub mod Rows
+pub mod Columns
+pub mod Private

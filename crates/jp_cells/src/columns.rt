@@ -1,0 +1,180 @@
+//! The row of a document: a cell for each query.
+
+ghost use Rattle.std.specs.Prelude.{◌≡◌, ◌∷◌, ◌++◌, IfOk, OnOk, false, map, string_bytes};
+ghost use Rattle.std.specs.List.{flat_map};
+ghost use Rattle.jp_document.specs.Text.{text_of};
+ghost use Rattle.jp_document.specs.Value.{items_of, list};
+ghost use Rattle.jp_tree.specs.Views.{query_of};
+ghost use Rattle.jp_select.specs.Steps.{Takes};
+ghost use Rattle.jp_evaluate.specs.Lent.{has_failed, rest_of, steps_of};
+ghost use Rattle.jp_evaluate.specs.Nodelist.{has_node, nodelist};
+ghost use Rattle.jp_evaluate.specs.Stopping.{StopsSpent};
+ghost use Rattle.jp_cells.specs.Cells.{cell_text, values_in};
+ghost use Rattle.jp_cells.specs.Columns.{cell_of, columns_text, some_node_in};
+ghost use Rattle.jp_cells.specs.Fields.{field_text};
+ghost use Rattle.jp_cells.specs.Private.Lists.{behind_comma};
+
+use crate::cell::push_alone;
+use crate::field::push_field;
+use crate::row::{end_row, push_separator};
+use crate::style::Style;
+use jp_check::Checked;
+use jp_evaluate::{EvaluationFault, Frame, LentNodes, Patterns, lent_nodes_in};
+use jp_lent::{Selectable, push_value};
+use jp_match::Marks;
+use jp_select::Steps;
+use std::alloc::{AllocError, Global};
+use std::mem;
+
+/// Memory that goes from the row of one document to that of the next.
+#[derive(Drop)]
+pub struct Room {
+    /// What was read of the patterns.
+    patterns: Patterns,
+    /// What a cell is made in.
+    cell: String,
+}
+
+impl Room {
+    /// None yet: it is taken as rows need it.
+    pub fn new(alloc: Global) -> Room {
+        Room {
+            patterns: Patterns::new(alloc),
+            cell: String::new(alloc),
+        }
+    }
+}
+
+/// Appends the row of the document whose value is the root: a cell for each query, in their order. The
+/// evaluations take from `steps` those that they make. Answers whether a query selects a node. The
+/// errors are that memory ran out and that the steps are used up; after both nothing is said of the row.
+pub fn push_columns<'d: 'q, 'q, V: Selectable + 'd>(
+    alloc: Global,
+    style: Style,
+    root: V,
+    queries: &'q [Checked],
+    room: &mut Room,
+    steps: &mut Steps,
+    row: &mut String,
+) -> Result<bool, EvaluationFault>
+    ensures selected { IfOk result (λ selected. selected
+        ≡ some_node_in (V.meaning root) (map (λ c. query_of c.query) queries.now)) }
+    ensures row { OnOk result (string_bytes row.new ≡ string_bytes row.old
+        ++ columns_text style (map (λ c. query_of c.query) queries.now) (V.meaning root)) }
+    ensures takes { Takes steps.old steps.new }
+    ensures stopped { StopsSpent result steps.new }
+{
+    let begin = row.len();
+    let mut frames: Vec<Frame<'d, V>> = Vec::new(alloc);
+    let mut selected = false;
+    for (column, query) in queries.iter().enumerate() {
+        push_separator(style.format, column, row)?;
+        let some = push_column(alloc, style, root, query, room, &mut frames, steps, row)?;
+        selected |= some;
+    }
+    end_row(style.format, begin, row)?;
+    Ok(selected)
+}
+
+/// Appends the cell of a query, as it stands in a row. Answers whether it selects a node.
+fn push_column<'d: 'q, 'q, V: Selectable + 'd>(
+    alloc: Global,
+    style: Style,
+    root: V,
+    query: &'q Checked,
+    room: &mut Room,
+    frames: &mut Vec<Frame<'d, V>>,
+    steps: &mut Steps,
+    row: &mut String,
+) -> Result<bool, EvaluationFault>
+    ensures selected { IfOk result (λ selected. selected
+        ≡ has_node (nodelist (query_of query.now.query) (V.meaning root))) }
+    ensures cell { OnOk result (string_bytes row.new ≡ string_bytes row.old
+        ++ field_text style (cell_of style.raw (V.meaning root) (query_of query.now.query))) }
+    ensures takes { Takes steps.old steps.new }
+    ensures stopped { StopsSpent result steps.new }
+{
+    let patterns = mem::replace(&mut room.patterns, Patterns::new(alloc));
+    let within = mem::replace(frames, Vec::new(alloc));
+    let mut nodes = lent_nodes_in(alloc, root, query, &Marks, patterns, within, *steps);
+    room.cell.clear();
+    let pushed = push_cell(style.raw, &mut nodes, &mut room.cell);
+    (room.patterns, *steps, *frames) = nodes.into_rooms();
+    let selected = pushed?;
+    push_field(style, room.cell.as_str(), row)?;
+    Ok(selected)
+}
+
+/// Appends the text of the cell in which the values of the nodes stand that are still to come. Answers
+/// whether there are any.
+fn push_cell<'d: 'q, 'q, V: Selectable + 'd>(
+    raw: bool,
+    nodes: &mut LentNodes<'d, 'q, V, Marks>,
+    cell: &mut String,
+) -> Result<bool, EvaluationFault>
+    requires { has_failed nodes.now ≡ false }
+    ensures selected { IfOk result (λ selected. selected ≡ has_node (rest_of V.meaning nodes.old)) }
+    ensures cell { OnOk result (string_bytes cell.new ≡ string_bytes cell.old
+        ++ cell_text raw (values_in (rest_of V.meaning nodes.old))) }
+    ensures takes { Takes (steps_of nodes.old) (steps_of nodes.new) }
+    ensures stopped { StopsSpent result (steps_of nodes.new) }
+{
+    let Some(first) = nodes.next_value() else {
+        return Ok(false);
+    };
+    let first = first?;
+    match nodes.next_value() {
+        None => push_alone(raw, first, cell)?,
+        Some(second) => push_list(first, second?, nodes, cell)?,
+    }
+    Ok(true)
+}
+
+/// Appends a JSON list of two values and of those of the nodes that are still to come.
+fn push_list<'d: 'q, 'q, V: Selectable + 'd>(
+    first: V,
+    second: V,
+    nodes: &mut LentNodes<'d, 'q, V, Marks>,
+    cell: &mut String,
+) -> Result<(), EvaluationFault>
+    requires { has_failed nodes.now ≡ false }
+    ensures cell { OnOk result (string_bytes cell.new ≡ string_bytes cell.old
+        ++ text_of (list (items_of (V.meaning first ∷ V.meaning second
+        ∷ values_in (rest_of V.meaning nodes.old))))) }
+    ensures takes { Takes (steps_of nodes.old) (steps_of nodes.new) }
+    ensures stopped { StopsSpent result (steps_of nodes.new) }
+{
+    cell.push('[')?;
+    push_value(cell, first)?;
+    push_behind_comma(second, cell)?;
+    push_others(nodes, cell)?;
+    cell.push(']')?;
+    Ok(())
+}
+
+/// Appends a comma and a value for each node that is still to come.
+fn push_others<'d: 'q, 'q, V: Selectable + 'd>(
+    nodes: &mut LentNodes<'d, 'q, V, Marks>,
+    cell: &mut String,
+) -> Result<(), EvaluationFault>
+    requires { has_failed nodes.now ≡ false }
+    ensures cell { OnOk result (string_bytes cell.new ≡ string_bytes cell.old
+        ++ flat_map behind_comma (values_in (rest_of V.meaning nodes.old))) }
+    ensures takes { Takes (steps_of nodes.old) (steps_of nodes.new) }
+    ensures stopped { StopsSpent result (steps_of nodes.new) }
+{
+    while let Some(next) = nodes.next_value() {
+        let value = next?;
+        push_behind_comma(value, cell)?;
+    }
+    Ok(())
+}
+
+/// Appends a comma and a value.
+fn push_behind_comma<'d, V: Selectable + 'd>(value: V, cell: &mut String) -> Result<(), AllocError>
+    ensures { OnOk result (string_bytes cell.new
+        ≡ string_bytes cell.old ++ behind_comma (V.meaning value)) }
+{
+    cell.push(',')?;
+    push_value(cell, value)
+}

@@ -1,0 +1,99 @@
+//! Rows by the examples of RFC 4180, and the row of a document.
+
+use crate::{Format, Room, Style, push_columns, push_row};
+use jp_check::{Profile, read_query};
+use jp_held::Document;
+use jp_select::Steps;
+use std::alloc::Global;
+use std::test::Fail;
+
+const TABS: Style = Style {
+    format: Format::Tabs,
+    raw: false,
+};
+
+const RAW_TABS: Style = Style { raw: true, ..TABS };
+
+const CSV: Style = Style {
+    format: Format::Csv,
+    raw: false,
+};
+
+const RAW_CSV: Style = Style { raw: true, ..CSV };
+
+#[test]
+fn rows(rt: HostRuntime) -> Result<(), Fail> {
+    let table: [(Style, &[&str], &str); 12] = [
+        // RFC 4180 section 2, rules 1 and 4 to 7
+        (CSV, &["aaa", "bbb", "ccc"], "aaa,bbb,ccc\r\n"),
+        (CSV, &["aaa", "b\r\nbb", "ccc"], "aaa,\"b\r\nbb\",ccc\r\n"),
+        (CSV, &["aaa", "b\"bb", "ccc"], "aaa,\"b\"\"bb\",ccc\r\n"),
+        (CSV, &["a,b", " c "], "\"a,b\", c \r\n"),
+        (CSV, &["\"", "\"\""], "\"\"\"\",\"\"\"\"\"\"\r\n"),
+        (CSV, &["", ""], ",\r\n"),
+        (CSV, &[""], "\"\"\r\n"),
+        (TABS, &["1", "[2,3]", ""], "1\t[2,3]\t\n"),
+        (TABS, &[""], "\n"),
+        (TABS, &["\"a\\nb\""], "\"a\\nb\"\n"),
+        (
+            RAW_TABS,
+            &["a\tb", "\\", "c\r\nd"],
+            "a\\tb\t\\\\\tc\\r\\nd\n",
+        ),
+        (RAW_TABS, &["été", "\"x\", y"], "été\t\"x\", y\n"),
+    ];
+    for (style, cells, wanted) in table {
+        let mut row = String::new(rt.alloc());
+        push_row(style, cells, &mut row)?;
+        assert!(rt; row.as_str() == wanted, "{row}");
+    }
+    Ok(())
+}
+
+/// The row of a document.
+fn row_of(alloc: Global, style: Style, queries: &[&str], document: &str) -> Result<String, Fail> {
+    let mut read = Vec::new(alloc);
+    for query in queries {
+        let query = read_query(alloc, query, Profile::Standard)
+            .ok()
+            .ok_or("refused")?;
+        read.push(query)?;
+    }
+    let document = Document::read(alloc, document.as_bytes())?;
+    let mut room = Room::new(alloc);
+    let mut steps = Steps::unlimited();
+    let mut row = String::new(alloc);
+    let root = document.value();
+    let pushed = push_columns(alloc, style, root, &read, &mut room, &mut steps, &mut row);
+    match pushed {
+        Ok(_) => Ok(row),
+        Err(_) => Err("no memory")?,
+    }
+}
+
+#[test]
+fn columns(rt: HostRuntime) -> Result<(), Fail> {
+    let queries = ["$.a", "$.b[*]", "$.c"];
+    let document = r#"{"a":"x\ty","b":[1,"2",[3]],"c":{"d":null}}"#;
+    let table = [
+        (TABS, document, "\"x\\ty\"\t[1,\"2\",[3]]\t{\"d\":null}\n"),
+        (RAW_TABS, document, "x\\ty\t[1,\"2\",[3]]\t{\"d\":null}\n"),
+        (
+            CSV,
+            document,
+            "\"\"\"x\\ty\"\"\",\"[1,\"\"2\"\",[3]]\",\"{\"\"d\"\":null}\"\r\n",
+        ),
+        (
+            RAW_CSV,
+            document,
+            "x\ty,\"[1,\"\"2\"\",[3]]\",\"{\"\"d\"\":null}\"\r\n",
+        ),
+        (TABS, r#"{"b":[7],"a":""}"#, "\"\"\t7\t\n"),
+        (RAW_TABS, r#"{"b":["7"],"a":""}"#, "\t7\t\n"),
+    ];
+    for (style, document, wanted) in table {
+        let row = row_of(rt.alloc(), style, &queries, document)?;
+        assert!(rt; row.as_str() == wanted, "{row}");
+    }
+    Ok(())
+}
