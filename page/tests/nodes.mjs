@@ -13,10 +13,10 @@ async function showsNodes() {
   assert.equal(`${await textOf("#query-outcome button")}\n`, byProgram("canon", QUERY, "").output);
   assert.match(await textOf("#count"), /^2 nodes in /);
   await choose("form", "paths");
+  await becomes(() => countOf("#nodes .value"), 0);
   assert.deepEqual(await textsOf("#nodes .path"), byProgram("paths", QUERY, STORE).output.trim().split("\n"));
-  assert.equal(await countOf("#nodes .value"), 0);
   await choose("form", "values");
-  assert.deepEqual(await textsOf("#nodes .value"), byProgram("eval", QUERY, STORE).output.trim().split("\n"));
+  await becomes(() => textsOf("#nodes .value"), byProgram("eval", QUERY, STORE).output.trim().split("\n"));
   assert.deepEqual(await textsOf("#nodes .path"), ["Node 1", "Node 2"]);
   await open({ q: "$[?distinct(@.*)]", d: STORE, p: "extended" });
   assert.equal(await listed(), byProgram("both", "$[?distinct(@.*)]", STORE, "--extended").output);

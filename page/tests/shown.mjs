@@ -49,10 +49,9 @@ export function click(selector) {
 }
 
 /** Chooses what a list offers. */
-export async function choose(id, value) {
-  await browser.value(`document.getElementById("${id}").value = "${value}";
+export function choose(id, value) {
+  return browser.value(`document.getElementById("${id}").value = "${value}";
     document.getElementById("${id}").dispatchEvent(new Event("change"))`);
-  await pause(100);
 }
 
 /** A member of an editor, "query" or "document", or what a call of one gives. */
@@ -133,9 +132,9 @@ export function boxOf(selector) {
   })()`);
 }
 
-/** Waits until an expression is true of the page, which says what is not so otherwise. */
+/** Waits until what is read of the page is as expected, for at most ten seconds, and else says what it is. */
 export async function becomes(read, expected) {
-  for (let tries = 0; tries < 40; tries += 1) {
+  for (let tries = 0; tries < 200; tries += 1) {
     try {
       assert.deepEqual(await read(), expected);
       return;
