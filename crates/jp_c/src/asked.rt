@@ -89,7 +89,7 @@ pub(crate) fn lines(
     ensures spends { Spends result steps.old steps.new }
 {
     let mut patterns = Patterns::new(alloc);
-    match selected_lines(alloc, form, "", root, query, &mut patterns, steps) {
+    match selected_lines(alloc, form, "", None, root, query, &mut patterns, steps) {
         Ok(text) => Ok(text),
         Err(fault) => Err(FindFault::from(fault)),
     }
