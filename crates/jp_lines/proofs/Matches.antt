@@ -13,14 +13,14 @@ use Rattle.clap.proofs.ValueTestLemmas.{Accepts-accepts, accepts-Accepts}
 use Rattle.clap.proofs.WalkLemmas.{one_text-rows}
 use Rattle.jp_command.specs.CommandLine.{query_app}
 use Rattle.jp_lines.specs.CommandLine.{greatest, jp_lines, keep_app, limit_asked, lines_app}
-use Rattle.jp_lines.specs.CommandLine.{number_in}
+use Rattle.jp_lines.specs.CommandLine.{number_in, with_selections}
 
 pub jp_lines_is_free : is_simple_and_free jp_lines ≡ true
-unfolding clap_on_literals jp_lines keep_app lines_app query_app
+unfolding clap_on_literals jp_lines with_selections keep_app lines_app query_app
 jp_lines_is_free = refl
 
 pub jp_lines_is_simple : is_simple jp_lines ≡ true
-unfolding clap_on_literals jp_lines keep_app lines_app query_app
+unfolding clap_on_literals jp_lines with_selections keep_app lines_app query_app
 jp_lines_is_simple = refl
 
 not-true : (b : Bool) → (b ≡ true → ⊥) → b ≡ false

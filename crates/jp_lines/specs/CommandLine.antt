@@ -49,6 +49,11 @@ lines_app name = with_flag (with_line_flags (query_app name)) (codes "first")
 abbrev pub with_lines : App → Text → App
 with_lines app name = with_subcommand app (lines_app name).top
 
+-- the command with the four subcommands that select nodes
+unfoldable pub with_selections : App → App
+with_selections app = with_lines (with_lines (with_lines (with_lines app
+    (codes "eval")) (codes "paths")) (codes "both")) (codes "count")
+
 -- the subcommand whose one positional is the expression, with `--extended` and the flags of a run
 unfoldable pub keep_app : App
 keep_app = with_line_flags (with_flag (with_rule (new_app (codes "keep"))
@@ -61,8 +66,7 @@ with_keep app = with_subcommand app keep_app.top
 -- `jp-lines` with its subcommands, one of which is required, and a version that it tells
 unfoldable pub jp_lines : App
 jp_lines = on_top (λ top. record top { subcommand_required = true; has_version = true })
-    (with_keep (with_lines (with_lines (with_lines (with_lines (new_app (codes "jp-lines"))
-    (codes "eval")) (codes "paths")) (codes "both")) (codes "count")))
+    (with_keep (with_selections (new_app (codes "jp-lines"))))
 
 -- what a subcommand's name asks to be written of each document
 abbrev pub wanted_called : Text → Option Wanted

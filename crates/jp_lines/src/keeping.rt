@@ -6,7 +6,7 @@ ghost use Rattle.jp_command.specs.Output.{StopsWriting, WritesAll};
 ghost use Rattle.jp_lines.specs.Private.Limits.{WritesOrGivesUp};
 ghost use Rattle.jp_lines.specs.Task.{Keep, is_kept, written_for};
 
-use crate::answer::{Reply, Asked};
+use crate::answer::{Asked, Reply};
 use crate::wanted::{allowed_by, stop_of, write_bytes, write_text};
 use jp_check::CheckedFilter;
 use jp_command::{Fault, Writer};

@@ -9,6 +9,7 @@ ghost use Rattle.clap.specs.declared.error.kind.ErrorKind.TheVariants.{MissingSu
 ghost use Rattle.jp_lines.specs.CommandLine.{asked, asked_by, jp_lines, lines_app};
 ghost use Rattle.jp_lines.specs.CommandLine.{extent_asked, limit_asked, options_asked, request_by};
 ghost use Rattle.jp_lines.specs.CommandLine.{keep_app, selection_by, wanted_called, with_keep};
+ghost use Rattle.jp_lines.specs.CommandLine.{with_selections};
 ghost use Rattle.jp_lines.specs.CommandLine.{with_limit, with_line_flags, with_lines};
 ghost use Rattle.jp_lines.specs.Private.Words.{IsNoCommand};
 ghost use Rattle.jp_lines.specs.Request.{KeepBy};
@@ -192,7 +193,18 @@ fn keep_command<'w>(alloc: Global) -> Result<Command<'w>, AllocError>
     with_line_flags(alloc, command)
 }
 
-/// The command with that subcommand more.
+/// The command with the four subcommands that select nodes.
+#[tactic(auto, unfolding(crate::specs::CommandLine::with_selections))]
+fn with_selections<'w>(alloc: Global, command: Command<'w>) -> Result<Command<'w>, AllocError>
+    ensures { IfOk result (λ more. app_of more ≡ with_selections (app_of command.entry)) }
+{
+    let command = with_lines(alloc, command, "eval", EVAL)?;
+    let command = with_lines(alloc, command, "paths", PATHS)?;
+    let command = with_lines(alloc, command, "both", BOTH)?;
+    with_lines(alloc, command, "count", COUNT)
+}
+
+/// The command with the subcommand `keep` more.
 fn with_keep<'w>(alloc: Global, command: Command<'w>) -> Result<Command<'w>, AllocError>
     ensures { IfOk result (λ more. app_of more ≡ with_keep (app_of command.entry)) }
 {
@@ -204,15 +216,11 @@ fn with_keep<'w>(alloc: Global, command: Command<'w>) -> Result<Command<'w>, All
 fn jp_lines_command<'w>(alloc: Global) -> Result<Command<'w>, AllocError>
     ensures { IfOk result (λ command. app_of command ≡ jp_lines) }
 {
-    let command = Command::new(alloc, "jp-lines")
+    let command = with_selections(alloc, Command::new(alloc, "jp-lines"))?;
+    let command = with_keep(alloc, command)?
         .version(VERSION)
         .about("Runs a JSONPath query (RFC 9535) over JSON documents, one a line")
         .after_help(AFTER_HELP);
-    let command = with_lines(alloc, command, "eval", EVAL)?;
-    let command = with_lines(alloc, command, "paths", PATHS)?;
-    let command = with_lines(alloc, command, "both", BOTH)?;
-    let command = with_lines(alloc, command, "count", COUNT)?;
-    let command = with_keep(alloc, command)?;
     Ok(command.subcommand_required(true))
 }
 
