@@ -2,7 +2,7 @@
 //! Each other query is a row of jp_command's table.
 
 use jp_check::Profile::{Extended, Standard};
-use jp_check::{Checked, Function, Profile, check, read_query};
+use jp_check::{Checked, Function, Profile, check, read_filter, read_query};
 use jp_query::{RefusalKind, parse};
 use std::alloc::Global;
 use std::process::Abort;
@@ -127,5 +127,29 @@ fn functions_are_known_by_their_names(rt: HostRuntime) -> Result<(), Fail> {
     }
     assert!(rt; Standard.function_named("distinct") == None);
     assert!(rt; Extended.function_named("distinct") == Some(Function::Distinct));
+    Ok(())
+}
+
+#[test]
+fn expressions_of_filters_are_read_alone(rt: HostRuntime) -> Result<(), Fail> {
+    let alloc = rt.alloc();
+    let filter = read_filter(alloc, " @.a == 1 || $.b ", Extended)
+        .ok()
+        .ok_or("refused")?;
+    assert_eq!(rt; filter.profile(), Extended);
+    let expr = filter.expr();
+    assert!(rt; format!(in alloc; "{expr:?}")?.starts_with("AnyOf([Compare"));
+    for (text, kind, place) in [
+        ("@.a, @.b", RefusalKind::Syntax, 3),
+        ("@.a == 1.5", RefusalKind::NotWhole, 7),
+        ("@.* == 1", RefusalKind::NotSingular, 0),
+        ("@.a && distinct(@)", RefusalKind::UnknownFunction, 7),
+    ] {
+        let refused = match read_filter(alloc, text, Standard) {
+            Ok(_) => None,
+            Err(refusal) => Some((refusal.kind, refusal.place)),
+        };
+        assert_eq!(rt; refused, Some((kind, place)), "{text}");
+    }
     Ok(())
 }
