@@ -8,7 +8,7 @@ _jp_lines() {
     if [[ ${COMP_WORDS[COMP_CWORD - 1]} =~ ^[0-9]*[\<\>]+$ ]]; then
         compopt -o default
     elif [ "$COMP_CWORD" -eq 1 ]; then
-        mapfile -t COMPREPLY < <(compgen -W "eval paths both count keep" -- "$word")
+        mapfile -t COMPREPLY < <(compgen -W "eval paths both count keep columns" -- "$word")
     elif [[ $word == -* ]]; then
         mapfile -t COMPREPLY < <(compgen -W "$(_jp_lines_flags)" -- "$word")
     fi
@@ -16,10 +16,11 @@ _jp_lines() {
 
 # The flags that the words before this one don't have, each of which is taken once; none after `--`.
 _jp_lines_flags() {
-    local flag before=" ${COMP_WORDS[*]:2:COMP_CWORD-2} "
+    local flag before=" ${COMP_WORDS[*]:2:COMP_CWORD-2} " own=(--first)
     [[ $before != *" -- "* ]] || return 0
-    for flag in --extended --number --first --keep-going --line-buffered --explain --exit-status --limit; do
-        [[ ${COMP_WORDS[1]} != keep || $flag != --first ]] || continue
+    [ "${COMP_WORDS[1]}" != keep ] || own=()
+    [ "${COMP_WORDS[1]}" != columns ] || own=(--csv --raw --names)
+    for flag in --extended --number "${own[@]}" --keep-going --line-buffered --explain --exit-status --limit; do
         [[ $before == *" $flag "* ]] || echo "$flag"
     done
 }

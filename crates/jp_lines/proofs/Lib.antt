@@ -13,4 +13,6 @@ pub mod Ending
 pub mod OneLine
 pub mod Flushing
 pub mod Matches
+pub mod Beginning
+pub mod OneByOne
 pub mod Rows

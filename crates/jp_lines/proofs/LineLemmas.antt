@@ -32,7 +32,7 @@ use Rattle.jp_lines.specs.Private.Answers.{defect_of}
 use Rattle.jp_lines.specs.Private.Limits.{WritesOrGivesUp, stop_of}
 use Rattle.jp_lines.specs.Private.Passing.{GoesThrough, Standing, kept_of}
 use Rattle.jp_lines.specs.Private.Treating.{Treats, StopsEnding}
-use Rattle.jp_lines.specs.Task.{Task, selects, written_for}
+use Rattle.jp_lines.specs.Task.{Task, mark_behind_number, selects, written_for}
 use Rattle.jp_lines.specs.declared.answer.Reply.{Reply}
 use Rattle.jp_lines.specs.declared.answer.Reply.TheVariants as reply
 use Rattle.jp_lines.specs.declared.answer.Reply.TheVariants.{Written}
@@ -66,7 +66,7 @@ stops-made contents has_failed evaluation.StepsUsedUp made text o = tt
 module _ {W : Type 0} (contents : W → Option (List ℕ)) (has_failed : W → Bool) (options : Options)
     (task : Task) (n : ℕ) (line : List ℕ) where
   abbrev output : Value → List ℕ
-  output d = written_for task (lead_of options.numbered n) line d
+  output d = written_for task (lead_of (mark_behind_number task) options.numbered n) line d
 
   pub answers-blank : (o : W) → length line ≤ document_limit → is_blank_line line ≡ true
       → AnswersLine contents has_failed options task n line o o false

@@ -1,26 +1,26 @@
 -- The shape of the words of `jp-lines`, and what clap's matches of them hold.
 use Rattle.std.proofs.Common.{◌≡◌, ◌∙◌, ℕ, Bool, true, false, List, Option, Some, None}
 use Rattle.std.proofs.Common.{Result, Ok, Err, codes, if◌then◌else◌, ap, refl, sym, arith}
-use Rattle.std.specs.Prelude.{option_and_then}
+use Rattle.std.specs.Prelude.{option_and_then, option_map}
 use Rattle.std.specs.Str.Parse.{ParsesUnsigned, digits_value, without_leading_plus}
-use Rattle.clap.specs.Matches.{ReadsOne, one_text}
+use Rattle.clap.specs.Matches.{ReadsOne, matched_of, one_text, raw_values}
 use Rattle.clap.specs.ValueTests.{is_unsigned_in}
-use Rattle.clap.specs.Words.{is_simple, is_simple_and_free, rows_of}
+use Rattle.clap.specs.Words.{Text, all_of, is_simple, is_simple_and_free, rows_of}
 use Rattle.clap.specs.declared.builder.value_parser.ValueParser.TheVariants.{Unsigned}
 use Rattle.clap.specs.declared.parser.matches.Found.{Found}
 use Rattle.clap.proofs.OnLiterals.{clap_on_literals}
 use Rattle.clap.proofs.ValueTestLemmas.{Accepts-accepts, accepts-Accepts}
-use Rattle.clap.proofs.WalkLemmas.{one_text-rows}
+use Rattle.clap.proofs.WalkLemmas.{one_text-rows, raw_values-rows}
 use Rattle.jp_command.specs.CommandLine.{query_app}
-use Rattle.jp_lines.specs.CommandLine.{greatest, jp_lines, keep_app, limit_asked, lines_app}
-use Rattle.jp_lines.specs.CommandLine.{number_in, with_selections}
+use Rattle.jp_lines.specs.CommandLine.{columns_app, greatest, jp_lines, keep_app, limit_asked, lines_app}
+use Rattle.jp_lines.specs.CommandLine.{number_in, queries_app, with_columns, with_keep, with_selections}
 
 pub jp_lines_is_free : is_simple_and_free jp_lines ≡ true
-unfolding clap_on_literals jp_lines with_selections keep_app lines_app query_app
+unfolding clap_on_literals jp_lines with_columns with_keep with_selections keep_app lines_app columns_app queries_app query_app
 jp_lines_is_free = refl
 
 pub jp_lines_is_simple : is_simple jp_lines ≡ true
-unfolding clap_on_literals jp_lines with_selections keep_app lines_app query_app
+unfolding clap_on_literals jp_lines with_columns with_keep with_selections keep_app lines_app columns_app queries_app query_app
 jp_lines_is_simple = refl
 
 not-true : (b : Bool) → (b ≡ true → ⊥) → b ≡ false
@@ -61,3 +61,10 @@ limit-read E gives parses found value none some =
         → value ≡ option_and_then number_in text
     go None is = none is
     go (Some t) is = number-of_text E t value (reads t value (some t is))
+
+-- what is made of the queries that the matches hold
+pub with_queries : {X : Type 0} (make : List Text → X) (found : Found) (texts : Option (List Text))
+    → texts ≡ option_map raw_values (matched_of found (codes "QUERY"))
+    → option_map make texts ≡ option_map make (all_of (codes "QUERY") (rows_of found))
+with_queries make found texts held =
+    ap (option_map make) (held ∙ raw_values-rows found (codes "QUERY"))

@@ -9,6 +9,7 @@ use Rattle.jp_command.specs.Output.{WritesAll}
 use Rattle.jp_command.specs.Run.{IsAsked, IsOutput}
 use Rattle.jp_command.specs.declared.lines.Form.{Form}
 use Rattle.jp_evaluate.specs.Nodelist.{nodelist}
+use Rattle.jp_reading.specs.Characters.{tab}
 use Rattle.jp_tree.specs.Tree.{QueryTree}
 use Rattle.jp_lines.specs.Laws.{OneLineIsADocument}
 use Rattle.jp_lines.specs.Lines.{is_blank_line, lines_of_input}
@@ -84,7 +85,7 @@ module _ (profile : Profile) {R W E : Type 0} (remaining : R → Option (List �
           last = reads.last;
         };
         document = doc;
-        is = ap (λ b. nodes_output (Nodes form) (lead_of b 1) (nodelist q d)) numbered;
+        is = ap (λ b. nodes_output (Nodes form) (lead_of tab b 1) (nodelist q d)) numbered;
       }
   outcome-is form options q text bytes i j x numbered asked reads some unrefused
       (defective d r has of) = cc

@@ -4,8 +4,10 @@ use Rattle.clap.proofs.OnLiterals.{clap_on_literals}
 use Rattle.jp_check.specs.declared.profile.Profile.TheVariants.{Standard, Extended}
 use Rattle.jp_command.specs.CommandLine.{query_app}
 use Rattle.jp_command.specs.declared.lines.Form.TheVariants.{Values, Paths, Both}
-use Rattle.jp_lines.specs.CommandLine.{asked, jp_lines, keep_app, lines_app, with_selections}
-use Rattle.jp_lines.specs.Request.{KeepBy, SelectBy}
+use Rattle.jp_cells.specs.declared.style.Format.TheVariants.{Csv}
+use Rattle.jp_lines.specs.CommandLine.{asked, columns_app, jp_lines, keep_app, lines_app, queries_app}
+use Rattle.jp_lines.specs.CommandLine.{with_columns, with_keep, with_selections}
+use Rattle.jp_lines.specs.Request.{ColumnsBy, KeepBy, SelectBy}
 use Rattle.jp_lines.specs.declared.options.Extent.TheVariants.{All, First}
 use Rattle.jp_lines.specs.declared.options.Options.{Options}
 use Rattle.jp_lines.specs.declared.options.Wanted.TheVariants.{Nodes, Count}
@@ -24,7 +26,7 @@ plain =
 
 values : asked (codes "jp-lines" ∷ codes "eval" ∷ codes "$" ∷ [])
     ≡ Some (plain, SelectBy (Nodes Values) All (codes "$"), Standard)
-unfolding clap_on_literals jp_lines with_selections keep_app lines_app query_app
+unfolding clap_on_literals jp_lines with_columns with_keep with_selections keep_app lines_app columns_app queries_app query_app
 values = refl
 
 number_and_buffer :
@@ -35,62 +37,62 @@ number_and_buffer :
       SelectBy (Nodes Both) All (codes "$"),
       Standard,
     )
-unfolding clap_on_literals jp_lines with_selections keep_app lines_app query_app
+unfolding clap_on_literals jp_lines with_columns with_keep with_selections keep_app lines_app columns_app queries_app query_app
 number_and_buffer = refl
 
 going_and_extended :
     asked (codes "jp-lines" ∷ codes "count" ∷ codes "--keep-going" ∷ codes "--extended"
     ∷ codes "$" ∷ [])
     ≡ Some (record plain { keep_going = true }, SelectBy Count All (codes "$"), Extended)
-unfolding clap_on_literals jp_lines with_selections keep_app lines_app query_app
+unfolding clap_on_literals jp_lines with_columns with_keep with_selections keep_app lines_app columns_app queries_app query_app
 going_and_extended = refl
 
 explaining : asked (codes "jp-lines" ∷ codes "eval" ∷ codes "$" ∷ codes "--explain" ∷ [])
     ≡ Some (record plain { explaining = true }, SelectBy (Nodes Values) All (codes "$"), Standard)
-unfolding clap_on_literals jp_lines with_selections keep_app lines_app query_app
+unfolding clap_on_literals jp_lines with_columns with_keep with_selections keep_app lines_app columns_app queries_app query_app
 explaining = refl
 
 keeping :
     asked (codes "jp-lines" ∷ codes "keep" ∷ codes "@.a" ∷ codes "--keep-going" ∷ [])
     ≡ Some (record plain { keep_going = true }, KeepBy (codes "@.a"), Standard)
-unfolding clap_on_literals jp_lines with_selections keep_app lines_app query_app
+unfolding clap_on_literals jp_lines with_columns with_keep with_selections keep_app lines_app columns_app queries_app query_app
 keeping = refl
 
 flag_twice :
     asked (codes "jp-lines" ∷ codes "count" ∷ codes "--number" ∷ codes "--number" ∷ codes "$" ∷ [])
     ≡ None
-unfolding clap_on_literals jp_lines with_selections keep_app lines_app query_app
+unfolding clap_on_literals jp_lines with_columns with_keep with_selections keep_app lines_app columns_app queries_app query_app
 flag_twice = refl
 
 no_query : asked (codes "jp-lines" ∷ codes "eval" ∷ []) ≡ None
-unfolding clap_on_literals jp_lines with_selections keep_app lines_app query_app
+unfolding clap_on_literals jp_lines with_columns with_keep with_selections keep_app lines_app columns_app queries_app query_app
 no_query = refl
 
 subcommand_of_another_program : asked (codes "jp-lines" ∷ codes "check" ∷ codes "$" ∷ []) ≡ None
-unfolding clap_on_literals jp_lines with_selections keep_app lines_app query_app
+unfolding clap_on_literals jp_lines with_columns with_keep with_selections keep_app lines_app columns_app queries_app query_app
 subcommand_of_another_program = refl
 
 limit :
     asked (codes "jp-lines" ∷ codes "eval" ∷ codes "--limit" ∷ codes "10000" ∷ codes "$" ∷ [])
     ≡ Some (record plain { limit = Some 10000 }, SelectBy (Nodes Values) All (codes "$"), Standard)
-unfolding clap_on_literals jp_lines with_selections keep_app lines_app query_app
+unfolding clap_on_literals jp_lines with_columns with_keep with_selections keep_app lines_app columns_app queries_app query_app
 limit = refl
 
 greatest_limit :
     asked (codes "jp-lines" ∷ codes "count" ∷ codes "$" ∷ codes "--limit=18446744073709551615" ∷ [])
     ≡ Some (record plain { limit = Some 18446744073709551615 }, SelectBy Count All (codes "$"), Standard)
-unfolding clap_on_literals jp_lines with_selections keep_app lines_app query_app
+unfolding clap_on_literals jp_lines with_columns with_keep with_selections keep_app lines_app columns_app queries_app query_app
 greatest_limit = refl
 
 limit_of_none :
     asked (codes "jp-lines" ∷ codes "eval" ∷ codes "--limit" ∷ codes "0" ∷ codes "$" ∷ []) ≡ None
-unfolding clap_on_literals jp_lines with_selections keep_app lines_app query_app
+unfolding clap_on_literals jp_lines with_columns with_keep with_selections keep_app lines_app columns_app queries_app query_app
 limit_of_none = refl
 
 limit_too_great :
     asked (codes "jp-lines" ∷ codes "eval" ∷ codes "--limit" ∷ codes "18446744073709551616"
     ∷ codes "$" ∷ []) ≡ None
-unfolding clap_on_literals jp_lines with_selections keep_app lines_app query_app
+unfolding clap_on_literals jp_lines with_columns with_keep with_selections keep_app lines_app columns_app queries_app query_app
 limit_too_great = refl
 
 first_and_status :
@@ -100,5 +102,24 @@ first_and_status :
       SelectBy (Nodes Paths) First (codes "$"),
       Standard,
     )
-unfolding clap_on_literals jp_lines with_selections keep_app lines_app query_app
+unfolding clap_on_literals jp_lines with_columns with_keep with_selections keep_app lines_app columns_app queries_app query_app
 first_and_status = refl
+
+columns :
+    asked (codes "jp-lines" ∷ codes "columns" ∷ codes "$.a" ∷ codes "--csv" ∷ codes "$.b"
+    ∷ codes "--names" ∷ codes "--keep-going" ∷ [])
+    ≡ Some (
+      record plain { keep_going = true },
+      ColumnsBy (record { format = Csv; raw = false }) true (codes "$.a" ∷ codes "$.b" ∷ []),
+      Standard,
+    )
+unfolding clap_on_literals jp_lines with_columns with_keep with_selections keep_app lines_app columns_app queries_app query_app
+columns = refl
+
+columns_of_no_query : asked (codes "jp-lines" ∷ codes "columns" ∷ codes "--raw" ∷ []) ≡ None
+unfolding clap_on_literals jp_lines with_columns with_keep with_selections keep_app lines_app columns_app queries_app query_app
+columns_of_no_query = refl
+
+csv_of_another_command : asked (codes "jp-lines" ∷ codes "eval" ∷ codes "--csv" ∷ codes "$" ∷ []) ≡ None
+unfolding clap_on_literals jp_lines with_columns with_keep with_selections keep_app lines_app columns_app queries_app query_app
+csv_of_another_command = refl

@@ -8,11 +8,11 @@ use Rattle.jp_command.specs.declared.fault.Fault.{Fault}
 use Rattle.jp_command.specs.declared.fault.Fault.TheVariants.{Query, Document, DocumentTooLarge}
 use Rattle.jp_command.specs.declared.fault.Fault.TheVariants.{NoMemory, Read, Write}
 use Rattle.jp_query.specs.declared.refusal.Refusal.{Refusal}
+use Rattle.jp_lines.specs.Private.Halting.{IsQueryOf}
 use Rattle.jp_lines.specs.Private.Telling.{Shows, StopsShowing, TellsRun, line_alone, memory, part}
 use Rattle.jp_lines.specs.Private.Telling.{with_explanation}
 use Rattle.jp_lines.specs.Program.{RunEnds, RunsProgram, TellsRefusal, explained, status_of_stop}
 use Rattle.jp_lines.specs.Program.{TellsStop, stopped}
-use Rattle.jp_lines.specs.Request.{query_text}
 use Rattle.jp_lines.specs.declared.stop.Stop.{Stop}
 use Rattle.jp_lines.specs.declared.stop.Stop.TheVariants.{Run}
 
@@ -55,10 +55,13 @@ module _ {R W E : Type 0} (remaining : R → Option (List ℕ)) (has_failed : R 
   Says = RunsProgram remaining has_failed read_gives contents writes_failed reports reports_failed
       words i j o p u v status
 
-  pub says-stop : (stop : Stop) (run : Ended stop) → status ≡ status_of_stop stop
-      → TellsRun reports reports_failed run.profile (query_text run.request) stop between v → Says
-  says-stop stop run is (line_alone told) = stopped stop between is run told
-  says-stop stop run is (with_explanation r same told) =
+  pub says-stop : (stop : Stop) (text : List ℕ) (run : Ended stop) → status ≡ status_of_stop stop
+      → IsQueryOf run.profile run.request stop text
+      → TellsRun reports reports_failed run.profile text stop between v → Says
+  says-stop stop text run is of (line_alone told) = stopped stop between is run told
+  says-stop stop text run is of (with_explanation r same told) =
       let P : Stop → Type 0 = λ s. (ended : Ended s) → status ≡ status_of_stop s
-      → TellsRefusal reports reports_failed ended.profile (query_text ended.request) r between v → Says in
-      subst P (sym same) (λ ended is told. explained r between is ended told) run is told
+      → IsQueryOf ended.profile ended.request s text
+      → TellsRefusal reports reports_failed ended.profile text r between v → Says in
+      subst P (sym same) (λ ended is of told. explained r text between is ended of told)
+      run is of told

@@ -1,6 +1,7 @@
 pub mod Lines
 pub mod Task
 pub mod Request
+pub mod Names
 pub mod Views
 pub mod Outcome
 pub mod Reads

@@ -13,7 +13,7 @@ use Rattle.jp_json.specs.Misreading.{IsMisreading}
 use Rattle.jp_json.specs.Told.{misreading_text}
 use Rattle.jp_json.specs.declared.misreading.Misreading.{Misreading}
 use Rattle.jp_lines.specs.Lines.{is_blank_line}
-use Rattle.jp_lines.specs.Task.{Task, selects, written_for}
+use Rattle.jp_lines.specs.Task.{Task, mark_behind_number, selects, written_for}
 use Rattle.jp_lines.specs.declared.defect.Defect.{Defect}
 use Rattle.jp_lines.specs.declared.defect.Defect.TheVariants.{Document, TooLarge, StepsUsedUp}
 use Rattle.jp_lines.specs.declared.defect.RefusedLine.{RefusedLine}
@@ -31,9 +31,9 @@ defect_text (StepsUsedUp made) = codes "document refused: StepsUsedUp"
 abbrev pub refused_text : RefusedLine → List ℕ
 refused_text r = codes "line " ++ decimal r.number ++ codes ": " ++ defect_text r.defect
 
--- the number of an input's line and a tab, where numbers are asked for
-abbrev pub lead_of : Bool → ℕ → List ℕ
-lead_of numbered number = if numbered then decimal number ++ codes "\t" else []
+-- the number of an input's line and a mark, where numbers are asked for
+abbrev pub lead_of : ℕ → Bool → ℕ → List ℕ
+lead_of mark numbered number = if numbered then decimal number ++ mark ∷ [] else []
 
 -- ---- outcomes
 
@@ -114,7 +114,8 @@ module _ (options : Options) (task : Task) where
     document : (d : Value) → length line ≤ document_limit → is_blank_line line ≡ false
         → IsDocument line d
         → ComesTo number line
-        (Answered (selects task d) (written_for task (lead_of options.numbered number) line d))
+        (Answered (selects task d)
+        (written_for task (lead_of (mark_behind_number task) options.numbered number) line d))
     defective : (defect : Defect) (r : RefusedLine) → IsDefective options line defect
         → IsRefusal options number line defect r → ComesTo number line (Refused r)
 

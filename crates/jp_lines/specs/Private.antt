@@ -2,6 +2,7 @@
 -- gone through, what is told of a run that stopped, and of words that are no command.
 pub mod Answers
 pub mod Limits
+pub mod Halting
 pub mod Passing
 pub mod Treating
 pub mod Asking

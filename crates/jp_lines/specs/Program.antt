@@ -8,13 +8,16 @@ use Rattle.clap.specs.declared.error.kind.ErrorKind.{ErrorKind}
 use Rattle.clap.specs.declared.error.kind.ErrorKind.TheVariants as kind
 use Rattle.jp_check.specs.declared.profile.Profile.{Profile}
 use Rattle.jp_command.specs.Line.{TellsExplained, fault_line, fault_text, status_of}
-use Rattle.jp_command.specs.Output.{AppendsPrefix, AppendsSome}
+use Rattle.jp_command.specs.Output.{AppendsPrefix, AppendsSome, StopsWriting, WritesAll}
+use Rattle.jp_command.specs.declared.fault.Fault.{Fault}
 use Rattle.jp_command.specs.declared.fault.Fault.TheVariants.{NoMemory, Query, Write}
 use Rattle.jp_query.specs.declared.refusal.Refusal.{Refusal}
 use Rattle.jp_lines.specs.CommandLine.{asked, jp_lines}
 use Rattle.jp_lines.specs.Outcome.{Refused, refused_text, told_of}
-use Rattle.jp_lines.specs.Request.{Request, query_text}
+use Rattle.jp_lines.specs.Request.{IsRefusedText, IsTaskOf, RefusesRequest, Request}
+use Rattle.jp_lines.specs.Names.{begin_of}
 use Rattle.jp_lines.specs.Run.{FailsAtRead, RunsLines, StopsAtLine}
+use Rattle.jp_lines.specs.Task.{Task}
 use Rattle.jp_lines.specs.declared.options.Options.{Options}
 use Rattle.jp_lines.specs.declared.stop.Stop.{Stop}
 use Rattle.jp_lines.specs.declared.stop.Stop.TheVariants.{Run, Line}
@@ -92,6 +95,21 @@ module _ {R W E : Type 0} (remaining : R → Option (List ℕ)) (has_failed : R 
       RunsLines profile options remaining has_failed read_gives contents writes_failed reports
       reports_failed request i j o p u v answer
 
+  -- What a run says that writes what it begins with once its queries are accepted, and flushes the
+  -- output in the end. Where a query is refused nothing is written, and where it can't begin, no input
+  -- is read and what it begins with is written in part.
+  pub data RunsWhole (options : Options) (profile : Profile) (request : Request) (i j : R) (o p : W)
+      (u v : E) (answer : Result Tally Stop) : Type 0 where
+    begun : (task : Task) (between : W) → IsTaskOf profile request task
+        → WritesAll contents writes_failed o between (begin_of options request)
+        → RunsAndFlushes options profile request i j between p u v answer
+        → RunsWhole options profile request i j o p u v answer
+    refused : (r : Refusal) → answer ≡ Err (Run (Query r)) → RefusesRequest profile request r → j ≡ i
+        → p ≡ o → v ≡ u → RunsWhole options profile request i j o p u v answer
+    unbegun : (fault : Fault) → answer ≡ Err (Run fault) → j ≡ i → v ≡ u
+        → StopsWriting contents writes_failed o p (begin_of options request) fault
+        → RunsWhole options profile request i j o p u v answer
+
   -- the run that the words ask for ended with this answer
   pub record RunEnds (words : List (List ℕ)) (i j : R) (o p : W) (u v : E)
       (answer : Result Tally Stop) : Type 0 where
@@ -99,7 +117,7 @@ module _ {R W E : Type 0} (remaining : R → Option (List ℕ)) (has_failed : R 
     pub request : Request
     pub profile : Profile
     pub asks : asked words ≡ Some (options, request, profile)
-    pub runs : RunsAndFlushes options profile request i j o p u v answer
+    pub runs : RunsWhole options profile request i j o p u v answer
 
   -- What is said with a status. Behind the line of a refused query stands an explanation, unless
   -- memory ran out for it. Where the words are not ones that the command line takes, clap's text is
@@ -111,9 +129,10 @@ module _ {R W E : Type 0} (remaining : R → Option (List ℕ)) (has_failed : R 
         → RunEnds words i j o p u between (Err stop)
         → TellsStop reports reports_failed stop between v
         → RunsProgram words i j o p u v status
-    explained : (r : Refusal) (between : E) → status ≡ status_of_stop (Run (Query r))
+    explained : (r : Refusal) (text : List ℕ) (between : E) → status ≡ status_of_stop (Run (Query r))
         → (run : RunEnds words i j o p u between (Err (Run (Query r))))
-        → TellsRefusal reports reports_failed run.profile (query_text run.request) r between v
+        → IsRefusedText run.profile run.request r text
+        → TellsRefusal reports reports_failed run.profile text r between v
         → RunsProgram words i j o p u v status
     shown : status ≡ 0 → AsksToShow words → j ≡ i → v ≡ u → AppendsSome (contents o) (contents p)
         → writes_failed p ≡ writes_failed o → RunsProgram words i j o p u v status

@@ -3,6 +3,10 @@ use Rattle.std.specs.Prelude.{ℕ, Bool, List, [], ◌++◌, codes, if◌then◌
 use Rattle.std.specs.Fmt.{decimal}
 use Rattle.std.specs.List.{flat_map}
 use Rattle.jp_command.specs.Lines.{line_behind}
+use Rattle.jp_reading.specs.Characters.{tab}
+use Rattle.jp_cells.specs.Columns.{columns_text, some_node_in}
+use Rattle.jp_cells.specs.Rows.{separator}
+use Rattle.jp_cells.specs.declared.style.Style.{Style}
 use Rattle.jp_document.specs.Node.{Node, root_of}
 use Rattle.jp_document.specs.Value.{Value}
 use Rattle.jp_evaluate.specs.Nodelist.{has_node, holds, nodelist}
@@ -18,6 +22,15 @@ pub data Task : Type 0 where
   -- writes the line itself where the expression is true of the document, which is its root and its
   -- current node (RFC 9535 section 2.3.5)
   Keep : ExprTree → Task
+  -- writes a row in this style, with a cell for each query
+  Tabulate : Style → List QueryTree → Task
+
+-- what stands behind the number of the input's line: between the cells of a row what stands between
+-- these, and else a tab
+abbrev pub mark_behind_number : Task → ℕ
+mark_behind_number (Select wanted extent q) = tab
+mark_behind_number (Keep e) = tab
+mark_behind_number (Tabulate style qs) = separator style.format
 
 -- all nodes, or the first alone
 abbrev pub nodes_within : Extent → List Node → List Node
@@ -39,8 +52,10 @@ written_for (Select wanted extent q) lead line d =
     nodes_output wanted lead (nodes_within extent (nodelist q d))
 written_for (Keep e) lead line d =
     if is_kept e d then lead ++ (line ++ codes "\n") else []
+written_for (Tabulate style qs) lead line d = lead ++ columns_text style qs d
 
 -- something is selected in the document d, or the document is kept
 abbrev pub selects : Task → Value → Bool
 selects (Select wanted extent q) d = has_node (nodelist q d)
 selects (Keep e) d = is_kept e d
+selects (Tabulate style qs) d = some_node_in d qs

@@ -45,6 +45,7 @@ pub(crate) struct Memory {
     /// What each line of output begins with.
     pub(crate) lead: String,
     pub(crate) spare: Spare,
+    pub(crate) cells: jp_cells::Room,
 }
 
 impl Memory {
@@ -54,6 +55,7 @@ impl Memory {
             room: Room::new(alloc),
             lead: String::new(alloc),
             spare: Spare::new(alloc),
+            cells: jp_cells::Room::new(alloc),
         }
     }
 }
@@ -95,7 +97,7 @@ pub(crate) fn answer<W: Writer>(
             }
             _ => answer_whole(asked, number, line, memory, output),
         },
-        Task::Keep(_) => answer_whole(asked, number, line, memory, output),
+        Task::Keep(_) | Task::Tabulate(_) => answer_whole(asked, number, line, memory, output),
     }
 }
 

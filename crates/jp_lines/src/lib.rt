@@ -25,6 +25,7 @@ pub mod laws;
 mod options;
 mod passing;
 mod program;
+mod reading;
 mod run;
 mod stop;
 mod tally;

@@ -4,25 +4,31 @@ ghost use Rattle.std.specs.Prelude.{◌≡◌, ◌⊎◌, Err, IfErr, OnOk, map,
 ghost use Rattle.std.specs.Io.KnownBytes.{Keeps};
 ghost use Rattle.jp_command.specs.declared.fault.Fault.TheVariants.{Write};
 ghost use Rattle.jp_command.specs.Output.{AppendsSome};
+ghost use Rattle.jp_check.specs.declared.profile.Profile.{Profile};
+ghost use Rattle.jp_tree.specs.Views.{query_of};
+ghost use Rattle.jp_lines.specs.Private.Halting.{IsQueryOf, IsUnrefused, without_query};
 ghost use Rattle.jp_lines.specs.Private.Telling.{Shows, StopsShowing, TellsRun};
-ghost use Rattle.jp_lines.specs.Program.{RunsAndFlushes, RunsProgram, TellsStop, status_of_end};
+ghost use Rattle.jp_lines.specs.Program.{RunsProgram, RunsWhole, TellsStop, status_of_end};
 ghost use Rattle.jp_lines.specs.Program.{is_shown, status_of_stop};
-ghost use Rattle.jp_lines.specs.Request.{KeepBy, SelectBy, query_text};
+ghost use Rattle.jp_lines.specs.Request.{AreAsked, ColumnsBy, KeepBy, SelectBy};
 ghost use Rattle.jp_lines.specs.Views.{request_of};
 ghost use Rattle.jp_lines.specs.declared.stop.Stop.TheVariants.{Run};
 
 use crate::expression::read_expression;
 use crate::options::{Extent, Options, Wanted};
-use crate::run::{run_kept, run_selected};
+use crate::reading::{Halt, read_all};
+use crate::run::{run_columns, run_kept, run_selected};
 use crate::stop::Stop;
 use crate::tally::Tally;
 use crate::task::Request;
 use crate::telling::tell;
 use crate::treating::flush;
+use crate::wanted::write_names;
 use crate::words::read_words;
 use clap::Error;
 use clap::error::ErrorKind;
-use jp_check::Profile;
+use jp_cells::Style;
+use jp_check::{Checked, Profile};
 use jp_command::{
     Fault, Output, Source, Writer, read_within_limit, refuse_words, report, report_refusal, status,
     write_all,
@@ -56,12 +62,12 @@ pub fn run_program<R: Source, W: Output, E: Writer>(
 {
     match read_words(alloc, &words) {
         Ok((options, request, profile)) => match run_and_flush(
-            alloc, request, profile, options, input, output, faults,
+            alloc, &request, profile, options, input, output, faults,
         ) {
             Ok(tally) => status_of_end(options, tally),
-            Err(stop) => {
-                tell_end(alloc, &stop, request, profile, faults);
-                status_of_stop(&stop)
+            Err(halt) => {
+                tell_end(alloc, &halt, &request, profile, faults);
+                status_of_stop(&halt.stop)
             }
         },
         Err(error) if is_shown(error.kind()) => show(alloc, &error, output, faults),
@@ -105,30 +111,49 @@ fn write_shown<W: Output>(alloc: Global, error: &Error, output: &mut W) -> Resul
 }
 
 /// Does what is asked with the lines. The output is flushed before the answer, unless a write has failed.
-fn run_and_flush<R: Source, W: Output, E: Writer>(
+fn run_and_flush<'w, R: Source, W: Output, E: Writer>(
     alloc: Global,
-    request: Request<'_>,
+    request: &Request<'w>,
     profile: Profile,
     options: Options,
     input: &mut R,
     output: &mut W,
     faults: &mut E,
-) -> Result<Tally, Stop>
-    ensures { RunsAndFlushes R.remaining R.has_failed R.read_gives
-        W.contents W.has_failed E.contents E.has_failed options profile (request_of request.entry)
-        input.old input.new output.old output.new faults.old faults.new result }
+) -> Result<Tally, Halt<'w>>
+    ensures runs { RunsWhole R.remaining R.has_failed R.read_gives
+        W.contents W.has_failed E.contents E.has_failed options profile (request_of request.now)
+        input.old input.new output.old output.new faults.old faults.new (without_query result) }
+    ensures query { IfErr result (λ halt.
+        IsQueryOf profile (request_of request.now) halt.stop halt.query.now) }
 {
     match request {
-        Request::SelectBy(wanted, extent, query) => select_and_flush(
-            alloc, wanted, extent, query, profile, options, input, output, faults,
-        ),
+        Request::SelectBy(wanted, extent, query) => {
+            match select_and_flush(
+                alloc, *wanted, *extent, query, profile, options, input, output, faults,
+            ) {
+                Ok(tally) => Ok(tally),
+                Err(stop) => Err(Halt { stop, query }),
+            }
+        }
         Request::KeepBy(text) => {
-            keep_and_flush(alloc, text, profile, options, input, output, faults)
+            match keep_and_flush(alloc, text, profile, options, input, output, faults) {
+                Ok(tally) => Ok(tally),
+                Err(stop) => Err(Halt { stop, query: text }),
+            }
+        }
+        Request::ColumnsBy(style, named, texts) => {
+            let queries = read_all(alloc, texts, profile)?;
+            match columns_and_flush(
+                alloc, *style, *named, texts, &queries, options, input, output, faults,
+            ) {
+                Ok(tally) => Ok(tally),
+                Err(stop) => Err(Halt { stop, query: "" }),
+            }
         }
     }
 }
 
-/// The same for the nodes that a query selects.
+/// The same of a selection.
 fn select_and_flush<R: Source, W: Output, E: Writer>(
     alloc: Global,
     wanted: Wanted,
@@ -140,9 +165,8 @@ fn select_and_flush<R: Source, W: Output, E: Writer>(
     output: &mut W,
     faults: &mut E,
 ) -> Result<Tally, Stop>
-    ensures { RunsAndFlushes R.remaining R.has_failed R.read_gives
-        W.contents W.has_failed E.contents E.has_failed options profile
-        (SelectBy wanted extent query.now)
+    ensures { RunsWhole R.remaining R.has_failed R.read_gives W.contents W.has_failed E.contents
+        E.has_failed options profile (SelectBy wanted extent query.now)
         input.old input.new output.old output.new faults.old faults.new result }
 {
     let query = read_within_limit(alloc, query, profile).map_err(Fault::from)?;
@@ -162,12 +186,36 @@ fn keep_and_flush<R: Source, W: Output, E: Writer>(
     output: &mut W,
     faults: &mut E,
 ) -> Result<Tally, Stop>
-    ensures { RunsAndFlushes R.remaining R.has_failed R.read_gives
-        W.contents W.has_failed E.contents E.has_failed options profile (KeepBy text.now)
+    ensures { RunsWhole R.remaining R.has_failed R.read_gives W.contents W.has_failed E.contents
+        E.has_failed options profile (KeepBy text.now)
         input.old input.new output.old output.new faults.old faults.new result }
 {
     let filter = read_expression(alloc, text, profile).map_err(Fault::from)?;
     let ended = run_kept(alloc, &filter, options, input, output, faults);
+    flush_ended(ended, output)
+}
+
+/// The same of columns with these names, whose queries were read.
+fn columns_and_flush<R: Source, W: Output, E: Writer>(
+    alloc: Global,
+    style: Style,
+    named: bool,
+    names: &[&str],
+    queries: &[Checked],
+    options: Options,
+    input: &mut R,
+    output: &mut W,
+    faults: &mut E,
+) -> Result<Tally, Stop>
+    ensures { (profile : Profile) → AreAsked profile (map (λ t. t.now) names.now)
+        (map (λ c. query_of c.query) queries.now)
+        → RunsWhole R.remaining R.has_failed R.read_gives W.contents W.has_failed E.contents
+        E.has_failed options profile (ColumnsBy style named (map (λ t. t.now) names.now))
+        input.old input.new output.old output.new faults.old faults.new result
+        × IfErr result IsUnrefused }
+{
+    write_names(alloc, style, named, options.numbered, names, output)?;
+    let ended = run_columns(alloc, style, queries, options, input, output, faults);
     flush_ended(ended, output)
 }
 
@@ -213,17 +261,17 @@ fn status_of_stop(stop: &Stop) -> u8
 /// Tells why a run stopped. Only the refusal of a query is explained.
 fn tell_end<E: Writer>(
     alloc: Global,
-    stop: &Stop,
-    request: Request<'_>,
+    halt: &Halt<'_>,
+    request: &Request<'_>,
     profile: Profile,
     faults: &mut E,
 )
-    ensures { TellsRun E.contents E.has_failed profile (query_text (request_of request.entry)) stop.now
+    ensures { TellsRun E.contents E.has_failed profile halt.now.query.now halt.now.stop
         faults.old faults.new }
 {
     match request {
-        Request::SelectBy(_, _, query) => tell_stop(alloc, stop, query, profile, faults),
-        Request::KeepBy(_) => tell_line(alloc, stop, faults),
+        Request::KeepBy(_) => tell_line(alloc, &halt.stop, faults),
+        _ => tell_stop(alloc, &halt.stop, halt.query, profile, faults),
     }
 }
 

@@ -1,6 +1,6 @@
 //! A run over the lines of an input.
 
-ghost use Rattle.std.specs.Prelude.{◌≡◌, IfOk, vec_len};
+ghost use Rattle.std.specs.Prelude.{◌≡◌, IfOk, map, vec_len};
 ghost use Rattle.jp_check.specs.declared.profile.Profile.{Profile};
 ghost use Rattle.jp_tree.specs.Views.{expr_of, query_of};
 ghost use Rattle.jp_command.specs.Limits.{chunk_size};
@@ -8,7 +8,7 @@ ghost use Rattle.jp_lines.specs.Private.Answers.{HasNamedLocation};
 ghost use Rattle.jp_lines.specs.Private.Asking.{RunsAsked};
 ghost use Rattle.jp_lines.specs.Request.{IsTaskOf, Request, SelectBy};
 ghost use Rattle.jp_lines.specs.Run.{RunsLines};
-ghost use Rattle.jp_lines.specs.Task.{Keep, Select};
+ghost use Rattle.jp_lines.specs.Task.{Keep, Select, Tabulate};
 ghost use Rattle.jp_lines.specs.Views.{task_of};
 ghost use Rattle.jp_lines.specs.declared.options.Extent.TheVariants as Extent;
 
@@ -17,7 +17,8 @@ use crate::options::{Extent, Options, Wanted};
 use crate::passing::{Progress, end_line, pass};
 use crate::stop::Stop;
 use crate::tally::Tally;
-use crate::task::{Selection, Task};
+use crate::task::{Columns, Selection, Task};
+use jp_cells::Style;
 use jp_check::{Checked, CheckedFilter, Profile};
 use jp_command::{Fault, Output, Source, Writer, read_within_limit};
 use jp_evaluate::named_location;
@@ -122,6 +123,30 @@ pub(crate) fn run_kept<R: Source, W: Output, E: Writer>(
     let asked = Asked {
         alloc,
         task: Task::Keep(filter),
+        options,
+    };
+    pass_all(asked, input, output, faults)
+}
+
+/// Writes a row in this style for each document, with a cell for each query.
+pub(crate) fn run_columns<R: Source, W: Output, E: Writer>(
+    alloc: Global,
+    style: Style,
+    queries: &[Checked],
+    options: Options,
+    input: &mut R,
+    output: &mut W,
+    faults: &mut E,
+) -> Result<Tally, Stop>
+    ensures { (profile : Profile) (request : Request)
+        → IsTaskOf profile request (Tabulate style (map (λ c. query_of c.query) queries.now))
+        → RunsAsked profile options R.remaining R.has_failed R.read_gives
+        W.contents W.has_failed E.contents E.has_failed request
+        input.old input.new output.old output.new faults.old faults.new result }
+{
+    let asked = Asked {
+        alloc,
+        task: Task::Tabulate(Columns { style, queries }),
         options,
     };
     pass_all(asked, input, output, faults)

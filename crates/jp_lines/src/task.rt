@@ -1,16 +1,20 @@
 //! What a run does with each document.
 
 use crate::options::{Extent, Wanted};
+use jp_cells::Style;
 use jp_check::{Checked, CheckedFilter};
 use jp_document::Step;
 
 /// What is asked of each document, in the texts of the words.
-#[derive(Clone, Copy)]
+#[derive(Drop)]
 pub(crate) enum Request<'w> {
     /// To write what is wanted of the nodes that the query of this text selects.
     SelectBy(Wanted, Extent, &'w str),
     /// To write the line where the expression of this text is true.
     KeepBy(&'w str),
+    /// To write a row in this style, with a cell for each of the queries of these texts, and before
+    /// all rows, if it is to be, one of these texts.
+    ColumnsBy(Style, bool, Vec<&'w str>),
 }
 
 /// What a run does with each document.
@@ -19,6 +23,7 @@ pub(crate) enum Task<'q> {
     Select(Selection<'q>),
     /// Writes the line where the expression is true.
     Keep(&'q CheckedFilter),
+    Tabulate(Columns<'q>),
 }
 
 /// Writes what is wanted of the nodes that the query selects.
@@ -29,4 +34,11 @@ pub(crate) struct Selection<'q> {
     pub(crate) query: &'q Checked,
     /// The location that the query names; None where it names none.
     pub(crate) location: Option<&'q [Step<'q>]>,
+}
+
+/// Writes a row in this style, with a cell for each query.
+#[derive(Clone, Copy)]
+pub(crate) struct Columns<'q> {
+    pub(crate) style: Style,
+    pub(crate) queries: &'q [Checked],
 }

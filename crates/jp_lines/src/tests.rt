@@ -1,5 +1,6 @@
 //! Runs over lines of every kind, and where reads, writes and flushes fail.
 
+mod columns;
 mod devices;
 mod explained;
 mod keep;

@@ -1,6 +1,7 @@
 //! What is written of a document.
 
-ghost use Rattle.std.specs.Prelude.{◌≡◌, ◌++◌, IfErr, IfOk, OnOk, codes, string_bytes};
+ghost use Rattle.std.specs.Prelude.{◌≡◌, ◌++◌, ◌<◌, IfErr, IfOk, OnOk, codes, map};
+ghost use Rattle.std.specs.Prelude.{string_bytes};
 ghost use Rattle.std.specs.Fmt.{decimal};
 ghost use Rattle.jp_tree.specs.Views.{query_of};
 ghost use Rattle.jp_select.specs.Steps.{Takes};
@@ -8,18 +9,24 @@ ghost use Rattle.jp_evaluate.specs.Nodelist.{has_node, nodelist};
 ghost use Rattle.jp_evaluate.specs.Stopping.{StopsSpent};
 ghost use Rattle.jp_command.specs.Found.{found_nodes};
 ghost use Rattle.jp_command.specs.Output.{StopsWriting, WritesAll};
+ghost use Rattle.jp_cells.specs.Columns.{columns_text};
+ghost use Rattle.jp_cells.specs.Rows.{separator};
+ghost use Rattle.jp_reading.specs.Characters.{tab};
+ghost use Rattle.jp_lines.specs.Names.{names_before, names_text};
 ghost use Rattle.jp_lines.specs.Outcome.{lead_of};
 ghost use Rattle.jp_lines.specs.Private.Limits.{IsAllowed, WritesOrGivesUp, most_within, stop_of};
-ghost use Rattle.jp_lines.specs.Task.{nodes_output, nodes_within, selects, written_for};
-ghost use Rattle.jp_lines.specs.Views.{task_of};
+ghost use Rattle.jp_lines.specs.Task.{mark_behind_number, nodes_output, nodes_within, selects};
+ghost use Rattle.jp_lines.specs.Task.{written_for};
+ghost use Rattle.jp_lines.specs.Views.{columns_task, task_of};
 
 use crate::answer::{Asked, Memory, Reply};
 use crate::count::count_selected;
 use crate::defect::Defect;
 use crate::keeping::write_kept;
 use crate::options::{Extent, Wanted};
-use crate::task::{Selection, Task};
+use crate::task::{Columns, Selection, Task};
 use itoa::Buffer;
+use jp_cells::{Format, Style, push_columns, push_row};
 use jp_command::{Fault, Spare, Writer, selected_lines, write_all, write_found, write_selected};
 use jp_document::Step;
 use jp_evaluate::EvaluationFault;
@@ -39,22 +46,116 @@ pub(crate) fn write_for<'d: 'q, 'q, V: Selectable + 'd, W: Writer>(
 ) -> Result<Reply, Fault>
     ensures ok { IfOk result (WritesOrGivesUp W.contents W.has_failed asked.entry.options.limit
         (selects (task_of asked.entry.task) (V.meaning root))
-        (written_for (task_of asked.entry.task) (lead_of asked.entry.options.numbered number)
+        (written_for (task_of asked.entry.task)
+        (lead_of (mark_behind_number (task_of asked.entry.task)) asked.entry.options.numbered number)
         line.now (V.meaning root)) output.old output.new) }
     ensures stopped { IfErr result (StopsWriting W.contents W.has_failed output.old output.new
-        (written_for (task_of asked.entry.task) (lead_of asked.entry.options.numbered number)
+        (written_for (task_of asked.entry.task)
+        (lead_of (mark_behind_number (task_of asked.entry.task)) asked.entry.options.numbered number)
         line.now (V.meaning root))) }
 {
-    set_lead(asked.options.numbered, number, &mut memory.lead)?;
-    let lead = memory.lead.as_str();
     match asked.task {
         Task::Select(selection) => {
+            set_lead(asked.options.numbered, number, '\t', &mut memory.lead)?;
+            let lead = memory.lead.as_str();
             write_wanted(asked, selection, lead, root, &mut memory.spare, output)
         }
         Task::Keep(filter) => {
+            set_lead(asked.options.numbered, number, '\t', &mut memory.lead)?;
+            let lead = memory.lead.as_str();
             let patterns = &mut memory.spare.patterns;
             write_kept(asked, filter, lead, line, root, patterns, output)
         }
+        Task::Tabulate(columns) => write_columns(asked, columns, number, root, memory, output),
+    }
+}
+
+/// The same of columns. Nothing is written before all of the row is made.
+fn write_columns<'d: 'q, 'q, V: Selectable + 'd, W: Writer>(
+    asked: Asked<'q>,
+    columns: Columns<'q>,
+    number: u64,
+    root: V,
+    memory: &mut Memory,
+    output: &mut W,
+) -> Result<Reply, Fault>
+    ensures ok { IfOk result (WritesOrGivesUp W.contents W.has_failed asked.entry.options.limit
+        (selects (columns_task columns.entry) (V.meaning root))
+        (lead_of (separator columns.entry.style.format) asked.entry.options.numbered number
+        ++ columns_text columns.entry.style (map (λ c. query_of c.query) columns.entry.queries.now)
+        (V.meaning root)) output.old output.new) }
+    ensures stopped { IfErr result (StopsWriting W.contents W.has_failed output.old output.new
+        (lead_of (separator columns.entry.style.format) asked.entry.options.numbered number
+        ++ columns_text columns.entry.style (map (λ c. query_of c.query) columns.entry.queries.now)
+        (V.meaning root))) }
+{
+    let allowed = allowed_by(asked.options.limit);
+    let mut steps = allowed;
+    let Columns { style, queries } = columns;
+    let line = &mut memory.spare.line;
+    set_lead(
+        asked.options.numbered,
+        number,
+        mark_between(style.format),
+        line,
+    )?;
+    let cells = &mut memory.cells;
+    match push_columns(asked.alloc, style, root, queries, cells, &mut steps, line) {
+        Ok(selected) => {
+            write_text(line.as_str(), output)?;
+            Ok(Reply::Written(selected))
+        }
+        Err(given_up) => stop_of(given_up, allowed.left() - steps.left()),
+    }
+}
+
+/// Writes a row of these names, if it is to be, behind `line` where the rows begin with numbers.
+pub(crate) fn write_names<W: Writer>(
+    alloc: Global,
+    style: Style,
+    named: bool,
+    numbered: bool,
+    names: &[&str],
+    output: &mut W,
+) -> Result<(), Fault>
+    ensures ok { OnOk result (WritesAll W.contents W.has_failed output.old output.new
+        (names_before style named numbered (map (λ t. t.now) names.now))) }
+    ensures stopped { IfErr result (StopsWriting W.contents W.has_failed output.old output.new
+        (names_before style named numbered (map (λ t. t.now) names.now))) }
+{
+    if !named {
+        return Ok(());
+    }
+    let row = names_row(alloc, style, numbered, names)?;
+    write_text(row.as_str(), output)
+}
+
+/// The row of these names.
+fn names_row(
+    alloc: Global,
+    style: Style,
+    numbered: bool,
+    names: &[&str],
+) -> Result<String, AllocError>
+    ensures { IfOk result (λ row. string_bytes row
+        ≡ names_text style numbered (map (λ t. t.now) names.now)) }
+{
+    let mut row = String::new(alloc);
+    if numbered {
+        row.push_str("line")?;
+        row.push(mark_between(style.format))?;
+    }
+    push_row(Style { raw: true, ..style }, names, &mut row)?;
+    Ok(row)
+}
+
+/// What stands between two cells.
+fn mark_between(format: Format) -> char
+    ensures { result ≡ separator format }
+{
+    match format {
+        Format::Tabs => '\t',
+        Format::Csv => ',',
     }
 }
 
@@ -226,15 +327,15 @@ pub(crate) fn write_wanted_at<V: Selectable, W: Writer>(
 ) -> Result<bool, Fault>
     ensures some { IfOk result (λ some. some ≡ has_node (found_nodes V.meaning location.now value)) }
     ensures ok { OnOk result (WritesAll W.contents W.has_failed output.old output.new
-        (nodes_output wanted (lead_of asked.entry.options.numbered number)
+        (nodes_output wanted (lead_of tab asked.entry.options.numbered number)
         (found_nodes V.meaning location.now value))) }
     ensures stopped { IfErr result (StopsWriting W.contents W.has_failed output.old output.new
-        (nodes_output wanted (lead_of asked.entry.options.numbered number)
+        (nodes_output wanted (lead_of tab asked.entry.options.numbered number)
         (found_nodes V.meaning location.now value))) }
 {
     let lead = &mut memory.lead;
     let line = &mut memory.spare.line;
-    set_lead(asked.options.numbered, number, lead)?;
+    set_lead(asked.options.numbered, number, '\t', lead)?;
     let lead = lead.as_str();
     let selected = value.is_some();
     match wanted {
@@ -246,15 +347,16 @@ pub(crate) fn write_wanted_at<V: Selectable, W: Writer>(
     Ok(selected)
 }
 
-/// Makes `lead` what each line of output begins with.
-fn set_lead(numbered: bool, number: u64, lead: &mut String) -> Result<(), AllocError>
-    ensures { OnOk result (string_bytes lead.new ≡ lead_of numbered number) }
+/// Makes `lead` what each line of output begins with: the number, where it is asked for, and a mark.
+fn set_lead(numbered: bool, number: u64, mark: char, lead: &mut String) -> Result<(), AllocError>
+    requires { mark < 128 }
+    ensures { OnOk result (string_bytes lead.new ≡ lead_of mark numbered number) }
 {
     lead.clear();
     if numbered {
         let mut buffer = Buffer::new();
         lead.push_str(buffer.format(number))?;
-        lead.push('\t')?;
+        lead.push(mark)?;
     }
     Ok(())
 }

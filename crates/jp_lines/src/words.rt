@@ -6,11 +6,13 @@ ghost use Rattle.clap.specs.Words.{IsAmong, app_of, fault_of, first_of, found_of
 ghost use Rattle.clap.specs.Words.{subcommand_of, subcommand_rows_of};
 ghost use Rattle.clap.specs.declared.builder.command.Command.TheViews.{out-Command};
 ghost use Rattle.clap.specs.declared.error.kind.ErrorKind.TheVariants.{MissingSubcommand, OutOfMemory};
-ghost use Rattle.jp_lines.specs.CommandLine.{asked, asked_by, jp_lines, lines_app};
-ghost use Rattle.jp_lines.specs.CommandLine.{extent_asked, limit_asked, options_asked, request_by};
-ghost use Rattle.jp_lines.specs.CommandLine.{keep_app, selection_by, wanted_called, with_keep};
-ghost use Rattle.jp_lines.specs.CommandLine.{with_selections};
-ghost use Rattle.jp_lines.specs.CommandLine.{with_limit, with_line_flags, with_lines};
+ghost use Rattle.jp_lines.specs.CommandLine.{asked, asked_by, columns_app, columns_by, extent_asked};
+ghost use Rattle.jp_lines.specs.CommandLine.{jp_lines, keep_app, limit_asked, lines_app, options_asked};
+ghost use Rattle.jp_lines.specs.CommandLine.{queries_app, request_by, selection_by, style_asked};
+ghost use Rattle.jp_lines.specs.CommandLine.{wanted_called, with_columns, with_keep, with_limit};
+ghost use Rattle.jp_lines.specs.CommandLine.{with_line_flags, with_lines, with_selections};
+ghost use Rattle.jp_command.specs.CommandLine.{is_set};
+ghost use Rattle.jp_lines.specs.Request.{ColumnsBy};
 ghost use Rattle.jp_lines.specs.Private.Words.{IsNoCommand};
 ghost use Rattle.jp_lines.specs.Request.{KeepBy};
 ghost use Rattle.jp_lines.specs.Views.{request_of};
@@ -19,6 +21,7 @@ use crate::options::{Extent, Options, Wanted};
 use crate::task::Request;
 use clap::error::ErrorKind;
 use clap::{Arg, ArgAction, ArgMatches, Command, Error, value_parser};
+use jp_cells::{Format, Style};
 use jp_check::Profile;
 use jp_command::{CommandHelp, Form, is_set, profile_asked, query_command, with_flag};
 use std::alloc::{AllocError, Global};
@@ -68,6 +71,12 @@ const KEEP: CommandHelp = CommandHelp {
     about: "Writes each line whose document makes the expression true",
     usage: "jp-lines keep [OPTIONS] <EXPRESSION> < FILE",
     example: "Example: printf '{\"a\":1}\\n{\"a\":2}\\n' | jp-lines keep '@.a > 1'",
+};
+
+const COLUMNS: CommandHelp = CommandHelp {
+    about: "Writes a row for each document, with a cell for each query",
+    usage: "jp-lines columns [OPTIONS] <QUERY>.. < FILE",
+    example: "Example: printf '{\"a\":1,\"b\":\"x\"}\\n' | jp-lines columns --raw '$.a' '$.b'",
 };
 
 /// What a subcommand's name asks to be written of each document.
@@ -128,7 +137,7 @@ fn with_line_flags<'w>(alloc: Global, command: Command<'w>) -> Result<Command<'w
         alloc,
         command,
         "number",
-        "Writes the number of the input's line and a tab before each line",
+        "Begins each line with the number of the input's line",
     )?;
     let command = with_flag(
         alloc,
@@ -155,6 +164,51 @@ fn with_line_flags<'w>(alloc: Global, command: Command<'w>) -> Result<Command<'w
         "Ends with status 6 where nothing is selected in any document",
     )?;
     with_limit(alloc, command)
+}
+
+/// A subcommand with one query or more and the flag `--extended`.
+#[tactic(auto, unfolding(crate::specs::CommandLine::queries_app))]
+fn queries_command<'w>(
+    alloc: Global,
+    name: &'w str,
+    help: CommandHelp,
+) -> Result<Command<'w>, AllocError>
+    ensures shape { IfOk result (λ command. app_of command ≡ queries_app name.entry.now) }
+    ensures local { IfOk result (λ command. (out-Command command).has_globals ≡ false) }
+{
+    let queries = Arg::new(alloc, "QUERY")
+        .required(true)
+        .action(ArgAction::Append)
+        .help("JSONPath queries, such as $.a[0]");
+    let command = Command::new(alloc, name)
+        .about(help.about)
+        .override_usage(help.usage)
+        .after_help(help.example)
+        .arg(queries)?;
+    with_flag(alloc, command, "extended", "Lets the queries call distinct")
+}
+
+/// The subcommand `columns`.
+#[tactic(auto, unfolding(crate::specs::CommandLine::columns_app))]
+fn columns_command<'w>(alloc: Global) -> Result<Command<'w>, AllocError>
+    ensures shape { IfOk result (λ command. app_of command ≡ columns_app) }
+    ensures local { IfOk result (λ command. (out-Command command).has_globals ≡ false) }
+{
+    let command = queries_command(alloc, "columns", COLUMNS)?;
+    let command = with_line_flags(alloc, command)?;
+    let command = with_flag(
+        alloc,
+        command,
+        "csv",
+        "Writes comma-separated values (RFC 4180) in place of tabs",
+    )?;
+    let command = with_flag(
+        alloc,
+        command,
+        "raw",
+        "Writes a text that stands alone without quotes",
+    )?;
+    with_flag(alloc, command, "names", "Writes the queries as a first row")
 }
 
 /// The command with one such subcommand more.
@@ -193,7 +247,7 @@ fn keep_command<'w>(alloc: Global) -> Result<Command<'w>, AllocError>
     with_line_flags(alloc, command)
 }
 
-/// The command with the four subcommands that select nodes.
+/// The command with the subcommands more that have one query.
 #[tactic(auto, unfolding(crate::specs::CommandLine::with_selections))]
 fn with_selections<'w>(alloc: Global, command: Command<'w>) -> Result<Command<'w>, AllocError>
     ensures { IfOk result (λ more. app_of more ≡ with_selections (app_of command.entry)) }
@@ -205,10 +259,19 @@ fn with_selections<'w>(alloc: Global, command: Command<'w>) -> Result<Command<'w
 }
 
 /// The command with the subcommand `keep` more.
+#[tactic(auto, unfolding(crate::specs::CommandLine::with_keep))]
 fn with_keep<'w>(alloc: Global, command: Command<'w>) -> Result<Command<'w>, AllocError>
     ensures { IfOk result (λ more. app_of more ≡ with_keep (app_of command.entry)) }
 {
     command.subcommand(keep_command(alloc)?)
+}
+
+/// The command with the subcommand `columns` more.
+#[tactic(auto, unfolding(crate::specs::CommandLine::with_columns))]
+fn with_columns<'w>(alloc: Global, command: Command<'w>) -> Result<Command<'w>, AllocError>
+    ensures { IfOk result (λ more. app_of more ≡ with_columns (app_of command.entry)) }
+{
+    command.subcommand(columns_command(alloc)?)
 }
 
 /// The whole command line.
@@ -217,7 +280,8 @@ fn jp_lines_command<'w>(alloc: Global) -> Result<Command<'w>, AllocError>
     ensures { IfOk result (λ command. app_of command ≡ jp_lines) }
 {
     let command = with_selections(alloc, Command::new(alloc, "jp-lines"))?;
-    let command = with_keep(alloc, command)?
+    let command = with_keep(alloc, command)?;
+    let command = with_columns(alloc, command)?
         .version(VERSION)
         .about("Runs a JSONPath query (RFC 9535) over JSON documents, one a line")
         .after_help(AFTER_HELP);
@@ -268,16 +332,6 @@ fn extent_asked(found: &ArgMatches) -> Extent
     }
 }
 
-/// What the subcommand `name` with the matches `found` asks for of each document.
-fn request_by<'w>(name: &str, found: &ArgMatches<'w>) -> Option<Request<'w>>
-    ensures { option_map request_of result ≡ request_by name.now (rows_of (found_of found.now)) }
-{
-    match name {
-        "keep" => keep_by(found),
-        _ => selection_by(name, found),
-    }
-}
-
 /// What the subcommand `keep` with the matches `found` asks for.
 fn keep_by<'w>(found: &ArgMatches<'w>) -> Option<Request<'w>>
     ensures { option_map request_of result
@@ -287,7 +341,7 @@ fn keep_by<'w>(found: &ArgMatches<'w>) -> Option<Request<'w>>
     Some(Request::KeepBy(expression))
 }
 
-/// What another subcommand asks for.
+/// What the subcommand `name`, which has one query, asks for of each document.
 fn selection_by<'w>(name: &str, found: &ArgMatches<'w>) -> Option<Request<'w>>
     ensures { option_map request_of result ≡ selection_by name.now (rows_of (found_of found.now)) }
 {
@@ -296,22 +350,90 @@ fn selection_by<'w>(name: &str, found: &ArgMatches<'w>) -> Option<Request<'w>>
     Some(Request::SelectBy(wanted, extent_asked(found), query))
 }
 
-/// What the subcommand `name` with the matches `found` asks for.
-fn asked_by<'w>(name: &str, found: &ArgMatches<'w>) -> Option<(Options, Request<'w>, Profile)>
-    ensures { option_map (λ found. (found.0, request_of found.1, found.2)) result
-        ≡ asked_by (name.now, rows_of (found_of found.now)) }
+/// How the rows are written that the matches of `columns` ask for.
+fn style_asked(found: &ArgMatches) -> Style
+    ensures { result ≡ style_asked (rows_of (found_of found.now)) }
 {
-    let request = request_by(name, found)?;
-    Some((options_asked(found), request, profile_asked(found)))
+    Style {
+        format: if is_set(found, "csv") {
+            Format::Csv
+        } else {
+            Format::Tabs
+        },
+        raw: is_set(found, "raw"),
+    }
+}
+
+/// What the subcommand `columns` asks for of each document.
+fn columns_by<'w>(alloc: Global, found: &ArgMatches<'w>) -> Result<Option<Request<'w>>, AllocError>
+    ensures { IfOk result (λ request.
+        option_map request_of request ≡ columns_by (rows_of (found_of found.now))) }
+{
+    match found.get_strs("QUERY") {
+        Some(texts) => Ok(Some(columns_of(alloc, found, texts)?)),
+        None => Ok(None),
+    }
+}
+
+/// The same of the queries of these texts.
+fn columns_of<'w>(
+    alloc: Global,
+    found: &ArgMatches<'w>,
+    texts: &[&'w str],
+) -> Result<Request<'w>, AllocError>
+    ensures { IfOk result (λ request. request_of request
+        ≡ ColumnsBy (style_asked (rows_of (found_of found.now)))
+        (is_set (codes "names") (rows_of (found_of found.now))) (map (λ t. t.now) texts.now)) }
+{
+    let mut queries = Vec::new(alloc);
+    queries.extend_from_slice(texts)?;
+    let named = is_set(found, "names");
+    Ok(Request::ColumnsBy(style_asked(found), named, queries))
+}
+
+/// What the subcommand `name` with the matches `found` asks for of each document.
+fn request_by<'w>(
+    alloc: Global,
+    name: &str,
+    found: &ArgMatches<'w>,
+) -> Result<Option<Request<'w>>, AllocError>
+    ensures { IfOk result (λ request.
+        option_map request_of request ≡ request_by name.now (rows_of (found_of found.now))) }
+{
+    match name {
+        "keep" => Ok(keep_by(found)),
+        "columns" => columns_by(alloc, found),
+        _ => Ok(selection_by(name, found)),
+    }
+}
+
+/// What the subcommand `name` with the matches `found` asks for.
+fn asked_by<'w>(
+    alloc: Global,
+    name: &str,
+    found: &ArgMatches<'w>,
+) -> Result<Option<(Options, Request<'w>, Profile)>, AllocError>
+    ensures { IfOk result (λ asked. option_map (λ found. (found.0, request_of found.1, found.2)) asked
+        ≡ asked_by (name.now, rows_of (found_of found.now))) }
+{
+    let Some(request) = request_by(alloc, name, found)? else {
+        return Ok(None);
+    };
+    Ok(Some((options_asked(found), request, profile_asked(found))))
 }
 
 /// What the subcommand in `matches` asks for.
-fn asked_in<'w>(matches: &ArgMatches<'w>) -> Option<(Options, Request<'w>, Profile)>
-    ensures { option_map (λ found. (found.0, request_of found.1, found.2)) result
-        ≡ option_and_then asked_by (subcommand_rows_of matches.now) }
+fn asked_in<'w>(
+    alloc: Global,
+    matches: &ArgMatches<'w>,
+) -> Result<Option<(Options, Request<'w>, Profile)>, AllocError>
+    ensures { IfOk result (λ asked. option_map (λ found. (found.0, request_of found.1, found.2)) asked
+        ≡ option_and_then asked_by (subcommand_rows_of matches.now)) }
 {
-    let (name, found) = matches.subcommand()?;
-    asked_by(name, found)
+    match matches.subcommand() {
+        Some((name, found)) => asked_by(alloc, name, found),
+        None => Ok(None),
+    }
 }
 
 /// What `words`, of which the first is the program's name, ask for, or clap's error.
@@ -325,7 +447,7 @@ pub(crate) fn read_words<'w>(
         ⊎ IsNoCommand (kind_of error) (map string_bytes words.entry.now)) }
 {
     let matches = matches_of(alloc, words)?;
-    match asked_in(&matches) {
+    match asked_in(alloc, &matches)? {
         Some(asked) => Ok(asked),
         None => Err(no_query(alloc)?),
     }

@@ -1,5 +1,5 @@
 -- What the answer to one line says. The clauses of `answer` cite it.
-use Rattle.std.specs.Prelude.{◌≡◌, ◌⊎◌, ℕ, Bool, true, List, Option, Result, Ok}
+use Rattle.std.specs.Prelude.{◌≡◌, ◌⊎◌, ⊤, ℕ, Bool, true, List, Option, Result, Ok}
 use Rattle.std.specs.Prelude.{Err, IfSome, map}
 use Rattle.jp_document.specs.Location.{step_of}
 use Rattle.jp_document.specs.declared.fault.DocumentFault.{DocumentFault}
@@ -28,7 +28,8 @@ defect_of fault = Ok (reply.Refused (Document fault))
 abbrev pub HasNamedLocation : coded.Task → Type 0
 HasNamedLocation (tasks.Select selection) = IfSome selection.location
     (λ l. NamesLocation (query_of selection.query.now.query) (map step_of l.now))
-HasNamedLocation (tasks.Keep filter) = Unit {0}
+HasNamedLocation (tasks.Keep filter) = ⊤
+HasNamedLocation (tasks.Tabulate columns) = ⊤
 
 -- o and p are the output before and after
 module _ {W : Type 0} (contents : W → Option (List ℕ)) (has_failed : W → Bool) (options : Options)

@@ -2,6 +2,7 @@ use Rattle.std.proofs.Common.{subst, sym, ◌∙◌}
 use Rattle.jp_tree.specs.Views.{query_of}
 use Rattle.jp_flat.specs.FlatValue.{lent_flat}
 use Rattle.jp_command.specs.Output.{StopsWriting, WritesAll}
+use Rattle.jp_reading.specs.Characters.{tab}
 use Rattle.jp_lines.specs.Outcome.{lead_of}
 use Rattle.jp_lines.specs.Views.{selection_task}
 use Rattle.jp_lines.proofs.FoundValues.{found-selects, found-wanted}
@@ -18,7 +19,7 @@ returns-in_err-selected-in-Ok-clause-stopped g c =
     let found = c.in-Ok.ensures.ok in
     let wanted =
     found-wanted lent_flat c.args.selection.wanted c.args.selection.extent
-    (lead_of options.numbered c.args.number) q
+    (lead_of tab options.numbered c.args.number) q
     found.document ks
     c.found_value-value.result c.requires.named (found.at ∙ sym c.found_value-value.ensures) in
     let fault = c.in_err-selected-in-Ok.field-0.0 in
@@ -39,7 +40,7 @@ returns-in_ok-selected-in-Ok-clause-answers g c =
     let found = c.in-Ok.ensures.ok in
     let wanted =
     found-wanted lent_flat c.args.selection.wanted c.args.selection.extent
-    (lead_of options.numbered c.args.number) q
+    (lead_of tab options.numbered c.args.number) q
     found.document ks
     c.found_value-value.result c.requires.named (found.at ∙ sym c.found_value-value.ensures) in
     answers-document g.W.Writer.contents g.W.Writer.has_failed options task c.args.number
