@@ -13,10 +13,9 @@ use Rattle.jp_query.specs.declared.refusal.Refusal.{Refusal}
 use Rattle.jp_query.specs.declared.refusal.RefusalKind.{RefusalKind}
 use Rattle.jp_query.specs.declared.refusal.RefusalKind.TheVariants as kind
 use Rattle.jp_tree.specs.Tree.{QueryTree}
-use Rattle.jp_lines.specs.Names.{begin_of}
 use Rattle.jp_lines.specs.Private.Asking.{RunsAsked}
 use Rattle.jp_lines.specs.Private.Halting.{IsQueryOf, IsUnrefused, StopsReading}
-use Rattle.jp_lines.specs.Program.{RunsWhole, refused, unbegun}
+use Rattle.jp_lines.specs.Program.{RunsWhole, exhausted, refused}
 use Rattle.jp_lines.specs.Request.{AreAsked, ColumnsBy, KeepBy, RefusesRequest, Request, SelectBy}
 use Rattle.jp_lines.specs.declared.options.Extent.{Extent}
 use Rattle.jp_lines.specs.declared.options.Options.{Options}
@@ -39,16 +38,7 @@ module _ {R W E : Type 0} (remaining : R → Option (List ℕ)) (has_failed : R 
   written-nothing = record { written = Appends-nil (contents o); works = refl }
 
   out-of-memory : (request : Request) → Unread request (stop.Run fault.NoMemory)
-  out-of-memory request =
-      unbegun fault.NoMemory refl refl refl (
-        record {
-          prefix = [];
-          rest = begin_of options request;
-          is = refl;
-          written = Appends-nil (contents o);
-        },
-        refl,
-      )
+  out-of-memory request = exhausted refl refl refl refl
 
   whole-kind : (request : Request) (k : RefusalKind) (r : Refusal)
       → RefusesRequest profile request r → Unread request (stop.Run (fault_of_kind k r))

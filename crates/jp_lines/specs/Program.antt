@@ -96,8 +96,9 @@ module _ {R W E : Type 0} (remaining : R → Option (List ℕ)) (has_failed : R 
       reports_failed request i j o p u v answer
 
   -- What a run says that writes what it begins with once its queries are accepted, and flushes the
-  -- output in the end. Where a query is refused nothing is written, and where it can't begin, no input
-  -- is read and what it begins with is written in part.
+  -- output in the end. Where a query is refused, or memory ran out before all are read, nothing is
+  -- written; where they are accepted and it can't begin, no input is read and what it begins with is
+  -- written in part.
   pub data RunsWhole (options : Options) (profile : Profile) (request : Request) (i j : R) (o p : W)
       (u v : E) (answer : Result Tally Stop) : Type 0 where
     begun : (task : Task) (between : W) → IsTaskOf profile request task
@@ -106,7 +107,10 @@ module _ {R W E : Type 0} (remaining : R → Option (List ℕ)) (has_failed : R 
         → RunsWhole options profile request i j o p u v answer
     refused : (r : Refusal) → answer ≡ Err (Run (Query r)) → RefusesRequest profile request r → j ≡ i
         → p ≡ o → v ≡ u → RunsWhole options profile request i j o p u v answer
-    unbegun : (fault : Fault) → answer ≡ Err (Run fault) → j ≡ i → v ≡ u
+    exhausted : answer ≡ Err (Run NoMemory) → j ≡ i → p ≡ o → v ≡ u
+        → RunsWhole options profile request i j o p u v answer
+    unbegun : (task : Task) (fault : Fault) → IsTaskOf profile request task
+        → answer ≡ Err (Run fault) → j ≡ i → v ≡ u
         → StopsWriting contents writes_failed o p (begin_of options request) fault
         → RunsWhole options profile request i j o p u v answer
 

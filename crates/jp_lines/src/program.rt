@@ -42,13 +42,14 @@ const LINE_REFUSED: u8 = 3;
 const NOTHING_SELECTED: u8 = 6;
 
 /// Does what `words` ask for, of which the first is the program's name, and answers the status: 0
-/// where it is done, also where help or the version is written to `output`, 1 where the query is refused, 2 where the words are not ones that the command
-/// line takes, 3 where some line is refused, 4 where the memory did not suffice, 5 where the input
-/// or the output failed, and with `--exit-status` 6 where it is done and nothing was selected. Statuses
-/// 1 to 5 have their line in `faults`, if it can be written there, and status 3 after `--keep-going` one
-/// for each line that is refused; with status 2 that is clap's own text. Behind the line of a refused query stands an explanation, if there is memory for it. The
-/// output is flushed at the end of a run, before anything is told of that, unless a
-/// write has failed; where the flush fails, that is told alone.
+/// where it is done, also where help or the version is written to `output`, 1 where a query or an
+/// expression is refused, 2 where the words are not ones that the command line takes, 3 where some line
+/// is refused, 4 where the memory did not suffice, 5 where the input or the output failed, and with
+/// `--exit-status` 6 where it is done and nothing was selected. Statuses 1 to 5 have their line in
+/// `faults`, if it can be written there, and status 3 after `--keep-going` one for each line that is
+/// refused; with status 2 that is clap's own text. Behind the line of a refused query stands an
+/// explanation, if there is memory for it. The output is flushed at the end of a run, before anything is
+/// told of that, unless a write has failed; where the flush fails, that is told alone.
 pub fn run_program<R: Source, W: Output, E: Writer>(
     alloc: Global,
     words: Vec<String>,

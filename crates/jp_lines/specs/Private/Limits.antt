@@ -1,5 +1,5 @@
--- What a limit of steps allows, how many nodes are asked for, and what an evaluation that is given up means for its line. The
--- clauses of `write_wanted` and of what it calls cite it.
+-- What a limit of steps allows, how many nodes are asked for, and what an evaluation that is given up
+-- means for its line. The clauses of `write_wanted` and of what it calls cite it.
 use Rattle.std.specs.Prelude.{◌≡◌, ℕ, Bool, true, false, List, Option, Some, None, Result, Ok, Err}
 use Rattle.jp_select.specs.declared.steps.Steps.{Steps}
 use Rattle.jp_evaluate.specs.declared.evaluation_fault.EvaluationFault.{EvaluationFault}

@@ -30,6 +30,7 @@ returns g c = λ profile asked.
 pub returns-in_err-write_names : goal.returns-in_err-write_names
 returns-in_err-write_names g c = λ profile asked.
     let request = ColumnsBy c.args.style c.args.named (map (λ t. t.now) c.args.names.now) in
+    let qs = map (λ k. query_of k.query) c.args.queries.now in
     let f = c.in_err-write_names.field-0.0 in (
       err-so c.from_residual.result (Run f)
           (RunsWhole g.R.Source.remaining g.R.Source.has_failed g.R.Source.read_gives
@@ -37,7 +38,8 @@ returns-in_err-write_names g c = λ profile asked.
           c.args.options profile request c.args.input.now c.args.input.now c.args.output.now
           c.write_names.new.output c.args.faults.now c.args.faults.now)
           c.from_residual.ensures.1
-          (unbegun f refl refl refl c.in_err-write_names.ensures.stopped),
+          (unbegun (Tabulate c.args.style qs) f (qs, refl, asked) refl refl refl
+          c.in_err-write_names.ensures.stopped),
       err-so c.from_residual.result (Run f) (λ answer. IfErr answer IsUnrefused)
           c.from_residual.ensures.1
           (unrefused-fault g.W.Writer.contents g.W.Writer.has_failed c.args.output.now
