@@ -20,7 +20,7 @@ use Rattle.jp_command.specs.Input.{ReadsAll, ReadsTooMuch}
 use Rattle.jp_command.specs.Limits.{document_limit}
 use Rattle.jp_command.specs.Lines.{output_of}
 use Rattle.jp_command.specs.QueryLine.{RunsQueryLine}
-use Rattle.jp_command.specs.Run.{IsAsked, RefusesQuery, refused, too_long}
+use Rattle.jp_command.specs.Run.{IsAsked, IsOutput, RefusesQuery, refused, too_long}
 use Rattle.jp_command.specs.declared.fault.Fault.{Fault}
 use Rattle.jp_command.specs.declared.fault.Fault.TheVariants.{Query, Document, DocumentTooLarge}
 use Rattle.jp_command.specs.declared.fault.Fault.TheVariants.{NoMemory, Read, Write}
@@ -43,7 +43,7 @@ came-within bytes came (Some rest) consumed =
     omega (arith, whole)
 
 -- a query that is asked is not refused
-asked-is_taken : (profile : Profile) (text : List ℕ) (q : QueryTree) (r : _)
+pub asked-is_taken : (profile : Profile) (text : List ℕ) (q : QueryTree) (r : _)
     → IsAsked profile text q → RefusesQuery profile text r → ⊥
 asked-is_taken profile text q r asked (too_long long is) = omega (arith, asked.short, long)
 asked-is_taken profile text q r asked (refused short none own) = none q asked.accepted
@@ -117,22 +117,30 @@ module _ (profile : Profile) {R W : Type 0} (remaining : R → Option (List ℕ)
         },
       )
 
-  -- and its nodelist is written
-  pub writes-nodelist : DocumentOrDefect → ((text : List ℕ) → OneAnswer profile text)
-      → (form : Form) (text : List ℕ) (i j : R) (o p : W) (q : QueryTree) (d : Value)
+  -- what a run of an accepted pair writes is the lines of its nodelist
+  pub output-is_that : DocumentOrDefect → ((text : List ℕ) → OneAnswer profile text)
+      → (form : Form) (text output : List ℕ) (i j : R) (q : QueryTree) (d : Value)
       → Accepted text i q d
-      → Ran form text i j o p (Ok tt)
-      → Appends (contents o) (contents p) (output_of form q d)
-  writes-nodelist documents queries form text i j o p q d is run =
-      let given = run.is in
+      → IsOutput profile remaining has_failed read_gives contents writes_failed form text i j output
+      → output ≡ output_of form q d
+  output-is_that documents queries form text output i j q d is given =
       let same : given.bytes ≡ is.bytes = read-all i j is.bytes given.bytes is.tells given.reads in
       let tree : given.q ≡ q =
       (queries (chars text)).one_tree given.q q given.asked.accepted is.asked.accepted in
       let value : given.d ≡ d =
       (documents is.bytes).one_value given.d d
       (subst (λ b. IsDocument b given.d) same given.document) is.document in
+      given.is ∙ ap₂ (output_of form) tree value
+
+  -- and they are written
+  pub writes-nodelist : DocumentOrDefect → ((text : List ℕ) → OneAnswer profile text)
+      → (form : Form) (text : List ℕ) (i j : R) (o p : W) (q : QueryTree) (d : Value)
+      → Accepted text i q d
+      → Ran form text i j o p (Ok tt)
+      → Appends (contents o) (contents p) (output_of form q d)
+  writes-nodelist documents queries form text i j o p q d is run =
       subst (Appends (contents o) (contents p))
-      (given.is ∙ ap₂ (output_of form) tree value) run.writes.written
+      (output-is_that documents queries form text run.output i j q d is run.is) run.writes.written
 
   -- a run that writes one line for a query writes that of an accepted one
   pub line-is_written : (line_of : QueryTree → List ℕ) (text : List ℕ) (o p : W)

@@ -12,5 +12,6 @@ pub mod Firsts
 mod Flushes
 pub mod FoundLines
 pub mod Headline
+pub mod Program
 pub mod Fronts
 pub mod Standard

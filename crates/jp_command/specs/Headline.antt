@@ -14,6 +14,7 @@ use Rattle.jp_document.specs.Laws.{DocumentOrDefect, NodesDiffer}
 use Rattle.jp_document.specs.Value.{Value}
 use Rattle.jp_document.specs.declared.fault.DocumentFault.{DocumentFault}
 use Rattle.jp_evaluate.specs.Laws.{PathSelectsItsNode, SelectsNodesAlone}
+use Rattle.jp_iregexp.specs.Matches.{MatchesAreTested, PartMatchesAreTested}
 use Rattle.jp_query.specs.Laws.{OneRefusal}
 use Rattle.jp_tree.specs.Tree.{QueryTree}
 use Rattle.jp_query.specs.declared.refusal.Refusal.{Refusal}
@@ -111,7 +112,11 @@ module _ (profile : Profile) {R W : Type 0} (remaining : R → Option (List ℕ)
         → IsAcceptedPair text i q d
         → Runs form text i j o p (Ok tt)
         → Appends (contents o) (contents p) (output_of form q d)
-    -- It has nodes of the document alone, each with the value that stands at its location.
+    -- The tests of `match` and `search`, which compute, tell exactly the texts that match, and those
+    -- of which some part does (sections 2.4.6 and 2.4.7).
+    pub matches : MatchesAreTested
+    pub part_matches : PartMatchesAreTested
+    -- A nodelist has nodes of the document alone, each with the value that stands at its location.
     pub own_nodes : SelectsNodesAlone
     -- The children of a node are the document's nodes one step further on, members in the order of
     -- their names' bytes and items by their indexes (section 1.1).

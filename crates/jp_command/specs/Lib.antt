@@ -15,4 +15,5 @@ pub mod Explained
 pub mod Line
 pub mod Found
 pub mod Headline
+pub mod Program
 pub mod Private

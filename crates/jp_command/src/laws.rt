@@ -1,13 +1,16 @@
-//! The headline, as the contract of a function that only calls the laws below it.
+//! The headline, and what the program does from its words to its status, each as the contract of a
+//! function that only calls the laws below it.
 
 ghost use Rattle.jp_check.specs.declared.profile.Profile.{Profile};
 ghost use Rattle.jp_command.specs.Headline.{Headline};
+ghost use Rattle.jp_command.specs.Program.{Program};
 
-use crate::device::{Source, Writer};
+use crate::device::{Output, Source, Writer};
 use jp_canon::laws::canon_tells_apart;
 use jp_check::laws::{fault_at_its_component, one_answer, standard_is_extended};
 use jp_document::laws::{children_are_exact, document_or_defect, paths_differ};
 use jp_evaluate::laws::{path_selects_its_node, selects_nodes_alone};
+use jp_iregexp::laws::tested_matches;
 use jp_query::laws::one_refusal;
 
 /// In each profile, running out of memory and failing streams aside: exactly the documents and
@@ -27,8 +30,18 @@ pub fn headline<R: Source, W: Writer>()
     paths_differ();
     path_selects_its_node();
     selects_nodes_alone();
+    tested_matches();
     standard_is_extended();
     canon_tells_apart();
     one_refusal();
     fault_at_its_component();
+}
+
+/// What each run of the program does, as `run_line` promises it: by what its words ask for, what is
+/// written, what is told of a fault, and the status from 0 to 5; and in each profile the headline.
+pub fn program<R: Source, W: Output, E: Writer>()
+    ensures { Program R.remaining R.has_failed R.read_gives W.contents W.has_failed W.write_takes
+        E.contents }
+{
+    headline::<R, W>();
 }

@@ -11,6 +11,7 @@
 //! (`specs/Check.antt`), and `run_canon` writes its canonical text (`specs/Canon.antt`). `run_line`
 //! is the whole program over its words; `specs/Line.antt` has what it says with each status, and
 //! `specs/Explained.antt` what stands behind the line of a refused query where that is asked for.
+//! `specs/Program.antt` has what follows of the whole program, sentence by sentence.
 #![tactic(auto)]
 
 mod buffer;

@@ -16,6 +16,8 @@ returns g c profile = record {
   refused_large = λ form text i j o p run. run;
   nodelist = writes-nodelist profile _ _ _ _ _ c.document_or_defect.ensures
       (c.one_answer.ensures profile);
+  matches = c.tested_matches.ensures.whole;
+  part_matches = c.tested_matches.ensures.part;
   own_nodes = c.selects_nodes_alone.ensures;
   children = c.children_are_exact.ensures;
   paths = c.paths_differ.ensures.nodes;

@@ -1,0 +1,473 @@
+-- Why the program does what `Program` says: each sentence follows from what `RunsLine` tells of a run
+-- with that status, and from the headline.
+use Rattle.std.proofs.Common.{◌≡◌, ◌⊎◌, inl, inr, ℕ, ◌≤◌, Bool, true, false, List, [], length}
+use Rattle.std.proofs.Common.{Option, Some, None, Result, Ok, Err, refl, sym, ◌∙◌, ap, subst, arith}
+use Rattle.std.proofs.KnownBytes.{Appends-nil}
+use Rattle.std.proofs.lemmas.Bool.{true≢false}
+use Rattle.std.proofs.lemmas.Option.{none-some, same_Some}
+use Rattle.std.specs.Io.KnownBytes.{Appends}
+use Rattle.std.specs.Str.{chars}
+use Rattle.jp_check.specs.Laws.{OneAnswer}
+use Rattle.jp_check.specs.declared.profile.Profile.{Profile}
+use Rattle.jp_document.specs.Document.{IsDocument}
+use Rattle.jp_document.specs.Laws.{DocumentOrDefect}
+use Rattle.jp_document.specs.Value.{Value}
+use Rattle.jp_document.specs.declared.fault.DocumentFault.{DocumentFault}
+use Rattle.jp_tree.specs.Tree.{QueryTree}
+use Rattle.jp_query.specs.declared.refusal.Refusal.{Refusal}
+use Rattle.jp_command.specs.Canon.{canon_line}
+use Rattle.jp_command.specs.Check.{accepted_line}
+use Rattle.jp_command.specs.CommandLine.{asked}
+use Rattle.jp_command.specs.Headline.{Refuses, is_refusal}
+use Rattle.jp_command.specs.Line.{RunsLine, RunsTask, RunsWords, done, explained, fault, memory}
+use Rattle.jp_command.specs.Line.{TellsExplained, TellsMisread, misread, status_of, usage}
+use Rattle.jp_command.specs.Limits.{document_limit}
+use Rattle.jp_command.specs.Lines.{output_of}
+use Rattle.jp_command.specs.Output.{AppendsPrefix, WritesPrefix}
+use Rattle.jp_command.specs.Program.{AskFor, FailsAtItsStreams, IsPair, ProgramRun, RefusesItsDocument}
+use Rattle.jp_command.specs.Program.{RefusesItsQuery, RefusesItsWords, TellsLine, WritesText, in_part}
+use Rattle.jp_command.specs.Program.{large, whole}
+use Rattle.jp_command.specs.Program as program
+use Rattle.jp_command.specs.QueryLine.{IsQueryLine, RunsQueryLine}
+use Rattle.jp_command.specs.Run.{IsAsked, IsOutput, RunsOut, at_a_node, at_a_read, at_the_document}
+use Rattle.jp_command.specs.Run.{RefusesDocument, at_the_query}
+use Rattle.jp_command.specs.declared.fault.Fault.{Fault}
+use Rattle.jp_command.specs.declared.fault.Fault.TheVariants.{Query, Document, DocumentTooLarge}
+use Rattle.jp_command.specs.declared.fault.Fault.TheVariants.{NoMemory, Read, Write}
+use Rattle.jp_command.specs.declared.lines.Form.{Form}
+use Rattle.jp_command.specs.declared.words.Task.{Task}
+use Rattle.jp_command.specs.declared.words.Task.TheVariants.{Check, Canon, Eval}
+use Rattle.jp_command.proofs.Headline.{accepted-is_taken, answered-is_accepted, asked-is_taken}
+use Rattle.jp_command.proofs.Headline.{output-is_that, writes-nodelist}
+
+-- the status of a fault is one from 1 to 5, and not 2
+fault-is_told : (f : Fault) → status_of f ≡ 0 → ⊥
+fault-is_told (Query r) is = omega (arith, is)
+fault-is_told _ is = omega (arith, is)
+
+fault-is_no_usage : (f : Fault) → status_of f ≡ 2 → ⊥
+fault-is_no_usage (Query r) is = omega (arith, is)
+fault-is_no_usage _ is = omega (arith, is)
+
+fault-is_within : (f : Fault) → status_of f ≤ 5
+fault-is_within (Query r) = omega arith
+fault-is_within _ = omega arith
+
+-- what is as it was has a prefix of any text more
+prefix-none : {W : Type 0} (contents : W → Option (List ℕ)) (o p : W) (text : List ℕ) → p ≡ o
+    → AppendsPrefix (contents o) (contents p) text
+prefix-none contents o p text same = record {
+  prefix = [];
+  rest = text;
+  is = refl;
+  written = subst (λ w. Appends (contents o) (contents w) []) (sym same) (Appends-nil (contents o));
+}
+
+module _ {R W E : Type 0} (remaining : R → Option (List ℕ)) (has_failed : R → Bool)
+    (read_gives : R → Option (List ℕ) → R → Type 0) (contents : W → Option (List ℕ))
+    (writes_failed : W → Bool) (write_takes : W → Option (List ℕ) → W → Type 0)
+    (reports : E → Option (List ℕ)) where
+  abbrev It : Type 0
+  It = ProgramRun remaining has_failed read_gives contents writes_failed write_takes reports
+
+  abbrev Ran : Profile → Task → List ℕ → It → Result (Unit {0}) Fault → Type 0
+  Ran profile task text it =
+      RunsTask profile remaining has_failed read_gives contents writes_failed task text it.i it.j
+      it.o it.p
+
+  abbrev Ended : Profile → It → Result (Unit {0}) Fault → Type 0
+  Ended profile it =
+      RunsWords profile remaining has_failed read_gives contents writes_failed write_takes it.words
+      it.i it.j it.o it.p
+
+  abbrev Writes : It → List ℕ → Type 0
+  Writes = WritesText remaining has_failed read_gives contents writes_failed write_takes reports
+
+  abbrev Pair : Profile → List ℕ → It → QueryTree → Value → Type 0
+  Pair = IsPair remaining has_failed read_gives contents writes_failed write_takes reports
+
+  abbrev Told : It → Fault → Type 0
+  Told = TellsLine remaining has_failed read_gives contents writes_failed write_takes reports
+
+  -- how a run ends whose words ask for a task
+  pub data Ends (profile : Profile) (task : Task) (text : List ℕ) (it : It) : Type 0 where
+    well : it.status ≡ 0 → it.v ≡ it.u → Ran profile task text it (Ok tt)
+        → Ends profile task text it
+    badly : (f : Fault) → it.status ≡ status_of f → Ran profile task text it (Err f)
+        → Ends profile task text it
+    early : it.status ≡ 4 → it.j ≡ it.i → it.p ≡ it.o → Ends profile task text it
+
+  -- the words ask for one task alone
+  same-task : (profile run_profile : Profile) (task : Task) (text : List ℕ) (explains : Bool)
+      (it : It) (answer : Result (Unit {0}) Fault) → AskFor it.words task text profile explains
+      → Ended run_profile it answer → Ran profile task text it answer
+  same-task profile run_profile task text explains it answer asks run =
+      subst (λ a. Ran a.2 a.0 a.1 it answer)
+      (same_Some _ _ (sym run.asks ∙ asks)) run.runs
+
+  pub how-ends : (profile : Profile) (task : Task) (text : List ℕ) (explains : Bool) (it : It)
+      → AskFor it.words task text profile explains
+      → RunsLine remaining has_failed read_gives contents writes_failed write_takes reports it.words
+      it.i it.j it.o it.p it.u it.v it.status
+      → Ends profile task text it
+  how-ends profile task text explains it asks (done other is run quiet) =
+      well is quiet (same-task profile other task text explains it (Ok tt) asks run)
+  how-ends profile task text explains it asks (fault other f is run told) =
+      badly f is (same-task profile other task text explains it (Err f) asks run)
+  how-ends profile task text explains it asks (explained other r is run asked told) =
+      badly (Query r) is (same-task profile other task text explains it (Err (Query r)) asks run)
+  how-ends profile task text explains it asks (misread other d is run asked refused told) =
+      badly (Document d) is
+      (same-task profile other task text explains it (Err (Document d)) asks run)
+  how-ends profile task text explains it asks (usage is none read written told) =
+      absurd (none-some _ (sym none ∙ asks))
+  how-ends profile task text explains it asks (memory is read written told) =
+      early is read written
+
+  -- what is written of an accepted query and an accepted document
+  module _ (documents : DocumentOrDefect) (profile : Profile)
+      (queries : (text : List ℕ) → OneAnswer profile text) (form : Form) (text : List ℕ) (it : It)
+      (q : QueryTree) (d : Value) (pair : Pair profile text it q d) where
+    abbrev IsWritten : List ℕ → Type 0
+    IsWritten = IsOutput profile remaining has_failed read_gives contents writes_failed form text
+        it.i it.j
+
+    prefix-is_that : WritesPrefix contents writes_failed IsWritten it.o it.p
+        → AppendsPrefix (contents it.o) (contents it.p) (output_of form q d)
+    prefix-is_that run = subst (AppendsPrefix (contents it.o) (contents it.p))
+        (output-is_that profile remaining has_failed read_gives contents writes_failed documents
+        queries form text run.output it.i it.j q d pair run.is) run.written
+
+    nothing : it.p ≡ it.o → AppendsPrefix (contents it.o) (contents it.p) (output_of form q d)
+    nothing = prefix-none contents it.o it.p (output_of form q d)
+
+    prefix-exhausted : RunsOut profile remaining has_failed read_gives contents writes_failed form
+        text it.i it.j it.o it.p
+        → AppendsPrefix (contents it.o) (contents it.p) (output_of form q d)
+    prefix-exhausted (at_the_query read same) = nothing same
+    prefix-exhausted (at_a_read tree asked reads same) = nothing same
+    prefix-exhausted (at_the_document tree bytes asked reads same) = nothing same
+    prefix-exhausted (at_a_node run) = prefix-is_that run
+
+    taken : (f : Fault) → Ran profile (Eval form) text it (Err f) → is_refusal f ≡ false
+    taken f run = accepted-is_taken profile remaining has_failed read_gives contents writes_failed
+        documents form text it.i it.j it.o it.p q d f pair run
+
+    lines-badly : (f : Fault) → it.status ≡ status_of f → Ran profile (Eval form) text it (Err f)
+        → Writes it (output_of form q d)
+    lines-badly NoMemory is run = in_part (inl is) (prefix-exhausted run.2)
+    lines-badly Read is run = in_part (inr is) (nothing run.2)
+    lines-badly Write is run = in_part (inr is) (prefix-is_that run.0)
+    lines-badly f is run = absurd (true≢false (taken f run))
+
+    pub writes-lines : Ends profile (Eval form) text it → Writes it (output_of form q d)
+    writes-lines (well is quiet run) =
+        whole is
+        (writes-nodelist profile remaining has_failed read_gives contents writes_failed documents
+        queries form text it.i it.j it.o it.p q d pair run) quiet
+    writes-lines (badly f is run) = lines-badly f is run
+    writes-lines (early is read same) = in_part (inl is) (nothing same)
+
+  -- what is written of an accepted query alone: its line
+  module _ (profile : Profile) (queries : (text : List ℕ) → OneAnswer profile text)
+      (line_of : QueryTree → List ℕ) (text : List ℕ) (it : It) (q : QueryTree)
+      (is_asked : IsAsked profile text q) where
+    abbrev RanLine : Result (Unit {0}) Fault → Type 0
+    RanLine = RunsQueryLine profile line_of contents writes_failed text it.o it.p
+
+    line-is_that : (line : List ℕ) → IsQueryLine profile line_of text line → line ≡ line_of q
+    line-is_that line given = given.is ∙ ap line_of
+        ((queries (chars text)).one_tree given.q q given.asked.accepted is_asked.accepted)
+
+    line-well : it.status ≡ 0 → it.v ≡ it.u → RanLine (Ok tt) → Writes it (line_of q)
+    line-well is quiet run = whole is
+        (subst (Appends (contents it.o) (contents it.p)) (line-is_that run.output run.is)
+        run.writes.written) quiet
+
+    line-badly : (f : Fault) → it.status ≡ status_of f → RanLine (Err f) → Writes it (line_of q)
+    line-badly (Query r) is run = absurd (asked-is_taken profile text q r is_asked run.0)
+    line-badly NoMemory is run = in_part (inl is) (prefix-none contents it.o it.p (line_of q) run)
+    line-badly Write is run =
+        in_part (inr is)
+        (subst (AppendsPrefix (contents it.o) (contents it.p)) (line-is_that run.0.output run.0.is)
+        run.0.written)
+    line-badly _ is run = absurd run
+
+    line-early : it.status ≡ 4 → it.p ≡ it.o → Writes it (line_of q)
+    line-early is same = in_part (inl is) (prefix-none contents it.o it.p (line_of q) same)
+
+  module _ (profile : Profile) (queries : (text : List ℕ) → OneAnswer profile text)
+      (text : List ℕ) (it : It) (q : QueryTree) (is_asked : IsAsked profile text q) where
+    pub writes-canonical : Ends profile Canon text it
+        → (it.j ≡ it.i) × Writes it (canon_line q)
+    writes-canonical (well is quiet run) =
+        (run.0, line-well profile queries canon_line text it q is_asked is quiet run.1)
+    writes-canonical (badly f is run) =
+        (run.0, line-badly profile queries canon_line text it q is_asked f is run.1)
+    writes-canonical (early is read same) =
+        (read, line-early profile queries canon_line text it q is_asked is same)
+
+    pub writes-accepted : Ends profile Check text it
+        → (it.j ≡ it.i) × Writes it (accepted_line q)
+    writes-accepted (well is quiet run) =
+        (run.0, line-well profile queries accepted_line text it q is_asked is quiet run.1)
+    writes-accepted (badly f is run) =
+        (run.0, line-badly profile queries accepted_line text it q is_asked f is run.1)
+    writes-accepted (early is read same) =
+        (read, line-early profile queries accepted_line text it q is_asked is same)
+
+  -- status 0 is that of accepted pairs, and of accepted queries
+  pub zero-is_accepted : (profile : Profile) (form : Form) (text bytes : List ℕ) (it : It)
+      → Ends profile (Eval form) text it → remaining it.i ≡ Some bytes → it.status ≡ 0
+      → (q : QueryTree) × (d : Value) × Pair profile text it q d
+  zero-is_accepted profile form text bytes it (well is quiet run) tells none =
+      answered-is_accepted profile remaining has_failed read_gives contents writes_failed form text
+      bytes it.i it.j it.o it.p tells run
+  zero-is_accepted profile form text bytes it (badly f is run) tells none =
+      absurd (fault-is_told f (sym is ∙ none))
+  zero-is_accepted profile form text bytes it (early is read same) tells none =
+      absurd (omega (arith, is, none))
+
+  -- what bytes have that are no document
+  module _ (profile : Profile) (form : Form) (text bytes : List ℕ) (it : It) (q : QueryTree)
+      (is_asked : IsAsked profile text q) (tells : remaining it.i ≡ Some bytes)
+      (none : (d : Value) → IsDocument bytes d → length bytes ≤ document_limit → ⊥) where
+    none-paired : (tree : QueryTree) (d : Value) → Pair profile text it tree d → ⊥
+    none-paired tree d pair =
+        let same : pair.bytes ≡ bytes = same_Some _ _ (sym pair.tells ∙ tells) in
+        none d (subst (λ b. IsDocument b d) same pair.document)
+        (subst (λ b. length b ≤ document_limit) same pair.few)
+
+    pub not-document : Ends profile (Eval form) text it
+        → (it.status ≡ 3) ⊎ (it.status ≡ 4) ⊎ (it.status ≡ 5)
+    not-document (well is quiet run) =
+        let found = answered-is_accepted profile remaining has_failed read_gives contents
+        writes_failed form text bytes it.i it.j it.o it.p tells run in
+        absurd (none-paired found.0 found.1 found.2)
+    not-document (badly (Query r) is run) =
+        absurd (asked-is_taken profile text q r is_asked run.0)
+    not-document (badly (Document e) is run) = inl is
+    not-document (badly DocumentTooLarge is run) = inl is
+    not-document (badly NoMemory is run) = inr (inl is)
+    not-document (badly Read is run) = inr (inr is)
+    not-document (badly Write is run) = inr (inr is)
+    not-document (early is read same) = inr (inl is)
+
+  task-asked : (profile : Profile) (task : Task) (text : List ℕ) (it : It)
+      → Ran profile task text it (Ok tt) → (q : QueryTree) × IsAsked profile text q
+  task-asked profile Check text it run = (run.1.is.q, run.1.is.asked)
+  task-asked profile Canon text it run = (run.1.is.q, run.1.is.asked)
+  task-asked profile (Eval form) text it run = (run.is.q, run.is.asked)
+
+  pub zero-is_asked : (profile : Profile) (task : Task) (text : List ℕ) (it : It)
+      → Ends profile task text it → it.status ≡ 0 → (q : QueryTree) × IsAsked profile text q
+  zero-is_asked profile task text it (well is quiet run) none =
+      task-asked profile task text it run
+  zero-is_asked profile task text it (badly f is run) none =
+      absurd (fault-is_told f (sym is ∙ none))
+  zero-is_asked profile task text it (early is read same) none =
+      absurd (omega (arith, is, none))
+
+  -- what a query has that is not accepted: no other fault than its own, or of memory
+  module _ (profile : Profile) (text : List ℕ) (it : It)
+      (none : (q : QueryTree) → IsAsked profile text q → ⊥) where
+    badly-refused : (task : Task) (f : Fault) → it.status ≡ status_of f
+        → Ran profile task text it (Err f) → (it.status ≡ 1) ⊎ (it.status ≡ 4)
+    badly-refused task (Query r) is run = inl is
+    badly-refused task NoMemory is run = inr is
+    badly-refused (Eval form) (Document e) is run = absurd (none run.0.q run.0.asked)
+    badly-refused (Eval form) DocumentTooLarge is run = absurd (none run.0.0 run.0.1)
+    badly-refused (Eval form) Read is run = absurd (none run.0.0 run.0.1)
+    badly-refused (Eval form) Write is run = absurd (none run.0.is.q run.0.is.asked)
+    badly-refused Check Write is run = absurd (none run.1.0.is.q run.1.0.is.asked)
+    badly-refused Canon Write is run = absurd (none run.1.0.is.q run.1.0.is.asked)
+    badly-refused Check _ is run = absurd run.1
+    badly-refused Canon _ is run = absurd run.1
+
+    pub not-accepted : (task : Task) → Ends profile task text it
+        → (it.status ≡ 1) ⊎ (it.status ≡ 4)
+    not-accepted task (well is quiet run) =
+        let asked = task-asked profile task text it run in absurd (none asked.0 asked.1)
+    not-accepted task (badly f is run) = badly-refused task f is run
+    not-accepted task (early is read same) = inr is
+
+  -- status 1
+  task-refused : (profile : Profile) (task : Task) (text : List ℕ) (it : It) (r : Refusal)
+      → Ran profile task text it (Err (Query r))
+      → Refuses profile remaining has_failed read_gives contents writes_failed text r it.i it.j
+      it.o it.p
+  task-refused profile Check text it r run = (run.1.0, run.0, run.1.1)
+  task-refused profile Canon text it r run = (run.1.0, run.0, run.1.1)
+  task-refused profile (Eval form) text it r run = run
+
+  abbrev QueryRefused : It → Type 0
+  QueryRefused = RefusesItsQuery remaining has_failed read_gives contents writes_failed write_takes
+      reports
+
+  refused-so : (profile : Profile) (it : It) (r : Refusal) (run : Ended profile it (Err (Query r)))
+      → Told it (Query r) ⊎ ((run.explains ≡ true)
+      × TellsExplained profile run.query r (reports it.u) (reports it.v))
+      → QueryRefused it
+  refused-so profile it r run told = record {
+    task = run.task;
+    text = run.query;
+    profile = profile;
+    explains = run.explains;
+    r = r;
+    asks = run.asks;
+    refuses = task-refused profile run.task run.query it r run.runs;
+    tells = told;
+  }
+
+  abbrev Says : It → Type 0
+  Says it = RunsLine remaining has_failed read_gives contents writes_failed write_takes reports
+      it.words it.i it.j it.o it.p it.u it.v it.status
+
+  one-so : (it : It) → Says it → it.status ≡ 1 → QueryRefused it
+  one-so it (done profile is run quiet) one = absurd (omega (arith, is, one))
+  one-so it (fault profile (Query r) is run told) one = refused-so profile it r run (inl told)
+  one-so it (fault profile _ is run told) one = absurd (omega (arith, is, one))
+  one-so it (explained profile r is run asks told) one =
+      refused-so profile it r run (inr (asks, told))
+  one-so it (misread profile d is run asks refused told) one = absurd (omega (arith, is, one))
+  one-so it (usage is none read written told) one = absurd (omega (arith, is, one))
+  one-so it (memory is read written told) one = absurd (omega (arith, is, one))
+
+  pub one-is_refused : (it : It) → it.status ≡ 1 → QueryRefused it
+  one-is_refused it one = one-so it it.says one
+
+  -- status 2
+  abbrev WordsRefused : It → Type 0
+  WordsRefused = RefusesItsWords remaining has_failed read_gives contents writes_failed write_takes
+      reports
+
+  two-so : (it : It) → Says it → it.status ≡ 2 → WordsRefused it
+  two-so it (done profile is run quiet) two = absurd (omega (arith, is, two))
+  two-so it (fault profile f is run told) two = absurd (fault-is_no_usage f (sym is ∙ two))
+  two-so it (explained profile r is run asks told) two = absurd (omega (arith, is, two))
+  two-so it (misread profile d is run asks refused told) two = absurd (omega (arith, is, two))
+  two-so it (usage is none read written told) two = (none, read, written, told)
+  two-so it (memory is read written told) two = absurd (omega (arith, is, two))
+
+  pub two-is_usage : (it : It) → it.status ≡ 2 → WordsRefused it
+  two-is_usage it two = two-so it it.says two
+
+  none-so : (it : It) → Says it → asked it.words ≡ None → (it.status ≡ 2) ⊎ (it.status ≡ 4)
+  none-so it (done profile is run quiet) none = absurd (none-some _ (sym none ∙ run.asks))
+  none-so it (fault profile f is run told) none = absurd (none-some _ (sym none ∙ run.asks))
+  none-so it (explained profile r is run asks told) none =
+      absurd (none-some _ (sym none ∙ run.asks))
+  none-so it (misread profile d is run asks refused told) none =
+      absurd (none-some _ (sym none ∙ run.asks))
+  none-so it (usage is fact read written told) none = inl is
+  none-so it (memory is read written told) none = inr is
+
+  pub no-words : (it : It) → asked it.words ≡ None → (it.status ≡ 2) ⊎ (it.status ≡ 4)
+  no-words it none = none-so it it.says none
+
+  -- status 3
+  abbrev DocumentRefused : It → Type 0
+  DocumentRefused = RefusesItsDocument remaining has_failed read_gives contents writes_failed
+      write_takes reports
+
+  document-so : (profile : Profile) (task : Task) (text : List ℕ) (explains : Bool) (it : It)
+      (d : DocumentFault) → AskFor it.words task text profile explains
+      → Ran profile task text it (Err (Document d)) → Told it (Document d) → DocumentRefused it
+  document-so profile Check text explains it d asks run told = absurd run.1
+  document-so profile Canon text explains it d asks run told = absurd run.1
+  document-so profile (Eval form) text explains it d asks run told =
+      program.fault form text profile explains d asks run (inl told)
+
+  misread-so : (profile : Profile) (task : Task) (text : List ℕ) (explains : Bool) (it : It)
+      (d : DocumentFault) → AskFor it.words task text profile explains
+      → Ran profile task text it (Err (Document d)) → explains ≡ true
+      → (refused : RefusesDocument profile remaining has_failed read_gives contents writes_failed
+      text it.i it.j d)
+      → TellsMisread refused.bytes (Document d) (reports it.u) (reports it.v) → DocumentRefused it
+  misread-so profile Check text explains it d asks run asked refused told = absurd run.1
+  misread-so profile Canon text explains it d asks run asked refused told = absurd run.1
+  misread-so profile (Eval form) text explains it d asks run asked refused told =
+      program.fault form text profile explains d asks (refused, run.1) (inr (asked, told))
+
+  large-so : (profile : Profile) (task : Task) (text : List ℕ) (explains : Bool) (it : It)
+      → AskFor it.words task text profile explains
+      → Ran profile task text it (Err DocumentTooLarge) → Told it DocumentTooLarge
+      → DocumentRefused it
+  large-so profile Check text explains it asks run told = absurd run.1
+  large-so profile Canon text explains it asks run told = absurd run.1
+  large-so profile (Eval form) text explains it asks run told =
+      large form text profile explains asks run told
+
+  three-so : (it : It) → Says it → it.status ≡ 3 → DocumentRefused it
+  three-so it (done profile is run quiet) three = absurd (omega (arith, is, three))
+  three-so it (fault profile (Document d) is run told) three =
+      document-so profile run.task run.query run.explains it d run.asks run.runs told
+  three-so it (fault profile DocumentTooLarge is run told) three =
+      large-so profile run.task run.query run.explains it run.asks run.runs told
+  three-so it (fault profile _ is run told) three = absurd (omega (arith, is, three))
+  three-so it (explained profile r is run asks told) three = absurd (omega (arith, is, three))
+  three-so it (misread profile d is run asks refused told) three =
+      misread-so profile run.task run.query run.explains it d run.asks run.runs asks refused told
+  three-so it (usage is none read written told) three = absurd (omega (arith, is, three))
+  three-so it (memory is read written told) three = absurd (omega (arith, is, three))
+
+  pub three-is_document : (it : It) → it.status ≡ 3 → DocumentRefused it
+  three-is_document it three = three-so it it.says three
+
+  -- status 4
+  four-so : (it : It) → Says it → it.status ≡ 4 → Told it NoMemory
+  four-so it (done profile is run quiet) four = absurd (omega (arith, is, four))
+  four-so it (fault profile NoMemory is run told) four = told
+  four-so it (fault profile _ is run told) four = absurd (omega (arith, is, four))
+  four-so it (explained profile r is run asks told) four = absurd (omega (arith, is, four))
+  four-so it (misread profile d is run asks refused told) four = absurd (omega (arith, is, four))
+  four-so it (usage is none read written told) four = absurd (omega (arith, is, four))
+  four-so it (memory is read written told) four = told
+
+  pub four-is_memory : (it : It) → it.status ≡ 4 → Told it NoMemory
+  four-is_memory it four = four-so it it.says four
+
+  -- status 5
+  task-unread : (profile : Profile) (task : Task) (text : List ℕ) (it : It)
+      → Ran profile task text it (Err Read) → has_failed it.j ≡ true
+  task-unread profile Check text it run = absurd run.1
+  task-unread profile Canon text it run = absurd run.1
+  task-unread profile (Eval form) text it run = run.1.fails
+
+  task-unwritten : (profile : Profile) (task : Task) (text : List ℕ) (it : It)
+      → Ran profile task text it (Err Write) → writes_failed it.p ≡ true
+  task-unwritten profile Check text it run = run.1.1
+  task-unwritten profile Canon text it run = run.1.1
+  task-unwritten profile (Eval form) text it run = run.1
+
+  abbrev StreamsFail : It → Type 0
+  StreamsFail = FailsAtItsStreams remaining has_failed read_gives contents writes_failed write_takes
+      reports
+
+  five-so : (it : It) → Says it → it.status ≡ 5 → StreamsFail it
+  five-so it (done profile is run quiet) five = absurd (omega (arith, is, five))
+  five-so it (fault profile Read is run told) five =
+      inl (task-unread profile run.task run.query it run.runs, told)
+  five-so it (fault profile Write is run told) five =
+      inr (task-unwritten profile run.task run.query it run.runs, told)
+  five-so it (fault profile _ is run told) five = absurd (omega (arith, is, five))
+  five-so it (explained profile r is run asks told) five = absurd (omega (arith, is, five))
+  five-so it (misread profile d is run asks refused told) five = absurd (omega (arith, is, five))
+  five-so it (usage is none read written told) five = absurd (omega (arith, is, five))
+  five-so it (memory is read written told) five = absurd (omega (arith, is, five))
+
+  pub five-is_streams : (it : It) → it.status ≡ 5 → StreamsFail it
+  five-is_streams it five = five-so it it.says five
+
+  -- no other
+  within-so : (it : It) → Says it → it.status ≤ 5
+  within-so it (done profile is run quiet) = omega (arith, is)
+  within-so it (fault profile f is run told) =
+      let most : status_of f ≤ 5 = fault-is_within f in omega (arith, is, most)
+  within-so it (explained profile r is run asks told) = omega (arith, is)
+  within-so it (misread profile d is run asks refused told) = omega (arith, is)
+  within-so it (usage is none read written told) = omega (arith, is)
+  within-so it (memory is read written told) = omega (arith, is)
+
+  pub status-is_within : (it : It) → it.status ≤ 5
+  status-is_within it = within-so it it.says

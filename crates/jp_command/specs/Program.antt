@@ -1,0 +1,172 @@
+-- What the program `jp` does, from its words to its status: what they ask for, and what is written
+-- and told with each status. The headline is one of the sentences. Each is about the runs of which
+-- `RunsLine` tells, as the contract of `run_line` says of every run of the program.
+use Rattle.std.specs.Prelude.{◌≡◌, ◌⊎◌, ℕ, ◌≤◌, Bool, true, List, length, Option, Some, None}
+use Rattle.std.specs.Io.KnownBytes.{Appends}
+use Rattle.jp_check.specs.declared.profile.Profile.{Profile}
+use Rattle.jp_document.specs.Document.{IsDocument}
+use Rattle.jp_document.specs.Value.{Value}
+use Rattle.jp_document.specs.declared.fault.DocumentFault.{DocumentFault}
+use Rattle.jp_tree.specs.Tree.{QueryTree}
+use Rattle.jp_query.specs.declared.refusal.Refusal.{Refusal}
+use Rattle.jp_command.specs.Canon.{canon_line}
+use Rattle.jp_command.specs.Check.{accepted_line}
+use Rattle.jp_command.specs.CommandLine.{asked}
+use Rattle.jp_command.specs.Headline.{Headline, IsAcceptedPair, Refuses, RefusesLarge, RefusesRead}
+use Rattle.jp_command.specs.Line.{RunsLine, TellsExplained, TellsMisread, fault_line}
+use Rattle.jp_command.specs.Limits.{document_limit}
+use Rattle.jp_command.specs.Lines.{output_of}
+use Rattle.jp_command.specs.Output.{AppendsPrefix, AppendsSome}
+use Rattle.jp_command.specs.Run.{IsAsked}
+use Rattle.jp_command.specs.declared.fault.Fault.{Fault}
+use Rattle.jp_command.specs.declared.fault.Fault.TheVariants.{Query, Document, DocumentTooLarge}
+use Rattle.jp_command.specs.declared.fault.Fault.TheVariants.{NoMemory, Read, Write}
+use Rattle.jp_command.specs.declared.lines.Form.{Form}
+use Rattle.jp_command.specs.declared.words.Task.{Task}
+use Rattle.jp_command.specs.declared.words.Task.TheVariants.{Check, Canon, Eval}
+
+-- the words ask for this task of this query, in this profile, and perhaps for explanations
+abbrev pub AskFor : List (List ℕ) → Task → List ℕ → Profile → Bool → Type 0
+AskFor words task text profile explains = asked words ≡ Some (task, text, profile, explains)
+
+module _ {R W E : Type 0} (remaining : R → Option (List ℕ)) (has_failed : R → Bool)
+    (read_gives : R → Option (List ℕ) → R → Type 0) (contents : W → Option (List ℕ))
+    (writes_failed : W → Bool) (write_takes : W → Option (List ℕ) → W → Type 0)
+    (reports : E → Option (List ℕ)) where
+  -- a run of the program: its words and its status; the input before and after it, the output, and
+  -- what takes the lines of faults
+  pub record ProgramRun : Type 0 where
+    pub words : List (List ℕ)
+    pub status : ℕ
+    pub i : R
+    pub j : R
+    pub o : W
+    pub p : W
+    pub u : E
+    pub v : E
+    pub says : RunsLine remaining has_failed read_gives contents writes_failed write_takes reports
+        words i j o p u v status
+
+  -- a prefix of the fault's line is told, and nothing else
+  abbrev pub TellsLine : ProgramRun → Fault → Type 0
+  TellsLine it f = AppendsPrefix (reports it.u) (reports it.v) (fault_line f)
+
+  -- the text is written and nothing is told; or memory ran out or a stream failed, and a prefix of
+  -- it is written
+  pub data WritesText (it : ProgramRun) (text : List ℕ) : Type 0 where
+    whole : it.status ≡ 0 → Appends (contents it.o) (contents it.p) text → it.v ≡ it.u
+        → WritesText it text
+    in_part : (it.status ≡ 4) ⊎ (it.status ≡ 5)
+        → AppendsPrefix (contents it.o) (contents it.p) text → WritesText it text
+
+  -- the text is asked as a query, and what the input tells is a document: the pair of them
+  abbrev pub IsPair : Profile → List ℕ → ProgramRun → QueryTree → Value → Type 0
+  IsPair profile text it =
+      IsAcceptedPair profile remaining has_failed read_gives contents writes_failed text it.i
+
+  -- the query that the words name is refused with r for what it is, and nothing is read or written;
+  -- its line is told, where the words ask for it with an explanation
+  pub record RefusesItsQuery (it : ProgramRun) : Type 0 where
+    pub task : Task
+    pub text : List ℕ
+    pub profile : Profile
+    pub explains : Bool
+    pub r : Refusal
+    pub asks : AskFor it.words task text profile explains
+    pub refuses : Refuses profile remaining has_failed read_gives contents writes_failed text r
+        it.i it.j it.o it.p
+    pub tells : TellsLine it (Query r) ⊎ ((explains ≡ true)
+        × TellsExplained profile text r (reports it.u) (reports it.v))
+
+  -- the query that the words name is accepted, and the document is refused for what it is, or as too
+  -- large; nothing is written, and its line is told, where the words ask for it with how it is
+  -- misread
+  pub data RefusesItsDocument (it : ProgramRun) : Type 0 where
+    fault : (form : Form) (text : List ℕ) (profile : Profile) (explains : Bool) (f : DocumentFault)
+        → AskFor it.words (Eval form) text profile explains
+        → (refuses : RefusesRead profile remaining has_failed read_gives contents writes_failed
+        text f it.i it.j it.o it.p)
+        → TellsLine it (Document f) ⊎ ((explains ≡ true)
+        × TellsMisread refuses.0.bytes (Document f) (reports it.u) (reports it.v))
+        → RefusesItsDocument it
+    large : (form : Form) (text : List ℕ) (profile : Profile) (explains : Bool)
+        → AskFor it.words (Eval form) text profile explains
+        → RefusesLarge profile remaining has_failed read_gives contents writes_failed text
+        it.i it.j it.o it.p
+        → TellsLine it DocumentTooLarge
+        → RefusesItsDocument it
+
+  -- the words ask for nothing; nothing is read or written, and some text tells so
+  abbrev pub RefusesItsWords : ProgramRun → Type 0
+  RefusesItsWords it = (asked it.words ≡ None) × (it.j ≡ it.i) × (it.p ≡ it.o)
+      × AppendsSome (reports it.u) (reports it.v)
+
+  -- the input or the output failed, and that is told
+  abbrev pub FailsAtItsStreams : ProgramRun → Type 0
+  FailsAtItsStreams it = ((has_failed it.j ≡ true) × TellsLine it Read)
+      ⊎ ((writes_failed it.p ≡ true) × TellsLine it Write)
+
+  pub record Program : Type 0 where
+    -- What runs answer and write is what the headline says of them, in each profile.
+    pub headline : (profile : Profile)
+        → Headline profile remaining has_failed read_gives contents writes_failed
+    -- Words that ask for the nodes of an accepted query over an accepted document get the lines of
+    -- its nodelist,
+    pub selects : (it : ProgramRun) (form : Form) (text : List ℕ) (profile : Profile)
+        (explains : Bool) (q : QueryTree) (d : Value)
+        → AskFor it.words (Eval form) text profile explains
+        → IsPair profile text it q d
+        → WritesText it (output_of form q d)
+    -- with status 0 of no other query over no other bytes;
+    pub no_other : (it : ProgramRun) (form : Form) (text bytes : List ℕ) (profile : Profile)
+        (explains : Bool)
+        → AskFor it.words (Eval form) text profile explains
+        → remaining it.i ≡ Some bytes
+        → it.status ≡ 0
+        → (q : QueryTree) × (d : Value) × IsPair profile text it q d
+    -- those that ask for the canonical text of an accepted query get it in a line, without a read,
+    pub canonical : (it : ProgramRun) (text : List ℕ) (profile : Profile) (explains : Bool)
+        (q : QueryTree)
+        → AskFor it.words Canon text profile explains
+        → IsAsked profile text q
+        → (it.j ≡ it.i) × WritesText it (canon_line q)
+    -- and so do those that ask whether it is accepted a line that says so.
+    pub checked : (it : ProgramRun) (text : List ℕ) (profile : Profile) (explains : Bool)
+        (q : QueryTree)
+        → AskFor it.words Check text profile explains
+        → IsAsked profile text q
+        → (it.j ≡ it.i) × WritesText it (accepted_line q)
+    -- Whatever they ask for, with status 0 the query is accepted;
+    pub done : (it : ProgramRun) (task : Task) (text : List ℕ) (profile : Profile)
+        (explains : Bool)
+        → AskFor it.words task text profile explains
+        → it.status ≡ 0
+        → (q : QueryTree) × IsAsked profile text q
+    -- a query that is not has status 1, unless memory runs out,
+    pub not_accepted : (it : ProgramRun) (task : Task) (text : List ℕ) (profile : Profile)
+        (explains : Bool)
+        → AskFor it.words task text profile explains
+        → ((q : QueryTree) → IsAsked profile text q → ⊥)
+        → (it.status ≡ 1) ⊎ (it.status ≡ 4)
+    -- which no other has.
+    pub refused : (it : ProgramRun) → it.status ≡ 1 → RefusesItsQuery it
+    -- Words that ask for nothing have status 2, unless memory runs out,
+    pub no_words : (it : ProgramRun) → asked it.words ≡ None
+        → (it.status ≡ 2) ⊎ (it.status ≡ 4)
+    -- which no others have.
+    pub refused_words : (it : ProgramRun) → it.status ≡ 2 → RefusesItsWords it
+    -- Bytes that are no document, or too many, have status 3, unless memory runs out or the input
+    -- fails,
+    pub no_document : (it : ProgramRun) (form : Form) (text bytes : List ℕ) (profile : Profile)
+        (explains : Bool) (q : QueryTree)
+        → AskFor it.words (Eval form) text profile explains
+        → IsAsked profile text q
+        → remaining it.i ≡ Some bytes
+        → ((d : Value) → IsDocument bytes d → length bytes ≤ document_limit → ⊥)
+        → (it.status ≡ 3) ⊎ (it.status ≡ 4) ⊎ (it.status ≡ 5)
+    -- which says that the document is refused. Status 4 says that memory ran out,
+    pub refused_document : (it : ProgramRun) → it.status ≡ 3 → RefusesItsDocument it
+    pub exhausted : (it : ProgramRun) → it.status ≡ 4 → TellsLine it NoMemory
+    -- status 5 that the input or the output failed; and no run has another status.
+    pub failed : (it : ProgramRun) → it.status ≡ 5 → FailsAtItsStreams it
+    pub statuses : (it : ProgramRun) → it.status ≤ 5
