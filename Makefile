@@ -44,8 +44,9 @@ test-hostile: ## runs of the proved programs where memory, stack or streams fail
 
 fmt: ## the code in Rattle, as rt fmt writes it
 	for it in crates/*/; do (cd "$$it" && rt fmt) || exit; done
-lint: ## shellcheck, flake8, clang-format and node on all else
+lint: ## shellcheck, flake8, clang-format and node on all else; names and heads of the crates
 	.ci/lint
+	.ci/words
 house: ## docs/HOUSE.md and the picture in README.md, from the files
 	.ci/house --write
 package: ## the Debian package, in packaging/out

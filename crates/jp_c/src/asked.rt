@@ -1,4 +1,5 @@
 //! From bytes to answers.
+
 ghost use Rattle.std.specs.Prelude.{◌≡◌, ◌⊎◌, IfErr, IfOk, string_bytes};
 ghost use Rattle.jp_command.specs.Lines.{output_of};
 ghost use Rattle.std.specs.Str.{IsUtf8};
@@ -46,7 +47,7 @@ pub(crate) fn asked(alloc: Global, query: &[u8], profile: Profile) -> Result<Che
     Ok(read_bytes(alloc, query, profile)?)
 }
 
-/// The same, or how it is refused.
+/// The query that these bytes are in a profile, or how it is refused.
 fn read_bytes(alloc: Global, query: &[u8], profile: Profile) -> Result<Checked, Refusal>
     ensures asked { IfOk result (λ c. IsAcceptedInBytes profile query.now (query_of c.query)) }
     ensures refused { IfErr result
@@ -56,7 +57,7 @@ fn read_bytes(alloc: Global, query: &[u8], profile: Profile) -> Result<Checked, 
     read_text(alloc, text, profile)
 }
 
-/// The same of a text.
+/// The query that this text is in a profile, or how it is refused.
 fn read_text(alloc: Global, text: &str, profile: Profile) -> Result<Checked, Refusal>
     ensures asked { IfOk result (λ c. IsAcceptedInBytes profile text.now (query_of c.query)) }
     ensures refused { IfErr result
@@ -124,8 +125,8 @@ pub(crate) fn answer(
     }
 }
 
-/// The same where the document was read before. It is read again only where memory ran out, and its
-/// length is looked at again where it is too large.
+/// What `answer` answers, where the document was read before. It is read again only where memory
+/// ran out, and its length is looked at again where it is too large.
 pub(crate) fn answer_from(
     alloc: Global,
     query: &[u8],

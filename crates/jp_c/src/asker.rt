@@ -1,4 +1,5 @@
 //! A kept query that is asked.
+
 ghost use Rattle.std.specs.Prelude.{◌≡◌, ◌⊎◌, ◌++◌, IfErr, IfOk, IsTrue, MatchResult, OnOk, false, map};
 ghost use Rattle.std.specs.Prelude.{string_bytes};
 ghost use Rattle.jp_c.specs.Asked.{IsNoDocument};
@@ -80,7 +81,7 @@ impl Asker {
         ask_whole(alloc, form, from, count, query, document, memory, steps)
     }
 
-    /// The same of a document that was read.
+    /// What `ask` puts into the text, of a document that was read.
     pub(crate) fn ask_value(
         &mut self,
         alloc: Global,
@@ -166,7 +167,7 @@ fn ask_named(
     Ok(is_named)
 }
 
-/// The same where the location is known.
+/// Puts the line of the value at a location behind the text, or nothing where no value is there.
 fn ask_at(
     alloc: Global,
     form: Form,

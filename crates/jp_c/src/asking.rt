@@ -1,4 +1,5 @@
 //! The calls that ask a query that is kept, in memory that is kept with it, and lend the answer.
+
 ghost use Rattle.std.specs.Prelude.{◌≡◌, None, Some, option_map};
 ghost use Rattle.jp_c.specs.Asking.{AnswersLent, IsAskDocumentOutcome, IsAskOutcome};
 ghost use Rattle.jp_c.specs.Handles.{document_kept, kept_by, query_kept};
@@ -158,7 +159,7 @@ fn asked(
     }
 }
 
-/// The same of what a box holds.
+/// `asked_of` what the box of a handle holds.
 fn asked_of_box(
     alloc: Global,
     kept: &mut Box<Kept, Global>,
@@ -172,7 +173,8 @@ fn asked_of_box(
     asked_of(alloc, kept.as_mut(), given, wanted)
 }
 
-/// The same of what is in it.
+/// The nodes that are wanted of the query that is kept over the document that is given, as a text
+/// that is lent, and the report.
 fn asked_of(alloc: Global, kept: &mut Kept, given: Given<'_>, wanted: Wanted) -> (Lent, Report)
     ensures { Asks (λ k. Within wanted.limit
         (IsAskedOutcome wanted.form wanted.from wanted.count given.entry k))

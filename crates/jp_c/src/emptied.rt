@@ -1,5 +1,6 @@
 //! Vectors with nothing in them, at other lifetimes. Such a vector owns its block alone, so its memory may
 //! serve values that live as long as others.
+
 ghost use Rattle.std.specs.Prelude.{◌≡◌, []};
 
 use jp_document::Step;
@@ -21,7 +22,7 @@ pub(crate) fn steps_again<'a, 'b>(
     loose_steps(Loose::of(steps)).into_box()
 }
 
-/// The same of its pointer, where the vector has nothing in it.
+/// The pointer of such a box, where the vector has nothing in it, as one of other steps.
 fn loose_steps<'a, 'b>(loose: Loose<Vec<Step<'a>>, Global>) -> Loose<Vec<Step<'b>>, Global>
     requires { loose.value.items ≡ [] }
     ensures { result.value.items ≡ [] }
@@ -41,7 +42,7 @@ pub(crate) fn frames_again<'a, 'b>(mut frames: Box<Frames<'a>, Global>) -> Box<F
     loose_frames(Loose::of(frames)).into_box()
 }
 
-/// The same of its pointer, where the vector has nothing in it.
+/// The pointer of such a box, where the vector has nothing in it, as one of other frames.
 fn loose_frames<'a, 'b>(loose: Loose<Frames<'a>, Global>) -> Loose<Frames<'b>, Global>
     requires { loose.value.items ≡ [] }
     ensures { result.value.items ≡ [] }

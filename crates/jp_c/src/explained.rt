@@ -1,4 +1,5 @@
 //! Why a query is refused, told to whoever typed it.
+
 ghost use Rattle.std.specs.Prelude.{◌≡◌, ◌⊎◌, IfOk, string_bytes};
 ghost use Rattle.std.specs.Str.{chars, IsUtf8};
 ghost use Rattle.jp_check.specs.Accepted.{IsNotAccepted};
@@ -80,7 +81,7 @@ fn explained(
     }
 }
 
-/// The same of a text.
+/// That part of an explanation of how the query of this text is refused.
 fn explained_text(
     alloc: Global,
     query: &str,
@@ -96,7 +97,7 @@ fn explained_text(
     }
 }
 
-/// The same of a text that is refused so.
+/// That part of the explanation of this refusal of the query of this text.
 fn refused_text(
     alloc: Global,
     query: &str,

@@ -1,4 +1,5 @@
 //! The calls that C makes.
+
 ghost use Rattle.std.specs.Prelude.{◌≡◌, []};
 ghost use Rattle.jp_c.specs.Calls.{IsCanonOutcome, IsCheckOutcome, IsEvalOutcome};
 ghost use Rattle.jp_c.specs.Limit.{AtOnce, Within};

@@ -1,4 +1,5 @@
 //! Handles: a query or a document that C keeps from one call to the next.
+
 ghost use Rattle.std.specs.Prelude.{◌≡◌, IfOk, None, Some, option_map};
 ghost use Rattle.std.specs.Option.{is_some};
 
@@ -55,7 +56,7 @@ impl Handle {
         }
     }
 
-    /// The same, or nothing.
+    /// The handle of a box, or an empty one where there is none.
     pub(crate) fn of_any(alloc: Global, kept: Option<Box<Kept, Global>>) -> Handle
         ensures { kept_by result ≡ option_map (λ b. b.value) kept }
     {

@@ -1,4 +1,5 @@
 //! The box behind a handle, as C may hold it.
+
 ghost use Rattle.std.specs.Prelude.{◌≡◌, Option, None, Some, true};
 ghost use Rattle.std.specs.Option.{is_some};
 ghost use Rattle.std.specs.Coded.{coded_option};

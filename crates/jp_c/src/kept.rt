@@ -1,4 +1,5 @@
 //! What a handle keeps.
+
 use crate::memory::Memory;
 use jp_check::Checked;
 use jp_flat::Flat;

@@ -1,4 +1,5 @@
 //! Text that is lent to C.
+
 ghost use Rattle.std.specs.Prelude.{◌≡◌, length, string_bytes};
 ghost use Rattle.std.specs.String.{string_vec};
 ghost use Rattle.std.specs.Vec.{vec_ptr};

@@ -1,4 +1,5 @@
 //! The steps that a call may make.
+
 ghost use Rattle.std.specs.Prelude.{◌≡◌, ◌-◌, ◌≤◌};
 ghost use Rattle.jp_c.specs.Private.Spending.{steps_of_limit};
 

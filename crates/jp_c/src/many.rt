@@ -1,4 +1,5 @@
 //! Many queries over one document, which is read once.
+
 ghost use Rattle.std.specs.Prelude.{◌≡◌, ◌≢◌, ◌⊎◌, ◌++◌, ℕ, List, drop, string_bytes, take};
 ghost use Rattle.jsonpath.specs.declared.fault.FindFault.TheVariants.{NoMemory};
 ghost use Rattle.jp_c.specs.Calls.{IsEvalOutcome};
@@ -165,7 +166,7 @@ fn told_behind(answered: Answered, texts: &mut String) -> Answered
     Answered { outcome, steps }
 }
 
-/// The same of the outcome alone.
+/// Puts the text of an outcome behind the others, of an outcome without its steps.
 fn outcome_behind(outcome: Outcome, texts: &mut String) -> Outcome
     ensures is { (result ≡ outcome) ⊎ ((result ≡ Fault NoMemory) × (outcome ≢ Usage)) }
     ensures told { string_bytes texts.new ≡ string_bytes texts.old ++ told_text result }

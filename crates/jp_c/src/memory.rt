@@ -1,4 +1,5 @@
 //! The memory of what is asked with a query that is kept, which goes from one call to the next.
+
 ghost use Rattle.std.specs.Prelude.{◌≡◌};
 
 use crate::emptied::{Frames, frames_again, steps_again};

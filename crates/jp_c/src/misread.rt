@@ -1,4 +1,5 @@
 //! Why bytes are no document, told to whoever wrote them.
+
 ghost use Rattle.std.specs.Prelude.{◌≡◌, ◌⊎◌, IfErr, IfOk, string_bytes};
 ghost use Rattle.jp_c.specs.Calls.{IsMisreadOutcome};
 ghost use Rattle.jp_c.specs.Limit.{AtOnce};

@@ -1,4 +1,5 @@
 //! The names of kinds.
+
 ghost use Rattle.std.specs.Prelude.{◌≡◌, ℕ, IfSome, List, None};
 ghost use Rattle.jp_c.specs.Calls.{IsNameOutcome};
 ghost use Rattle.jp_c.specs.Limit.{AtOnce};

@@ -1,4 +1,5 @@
 //! What the numbers that C gives stand for.
+
 ghost use Rattle.std.specs.Prelude.{◌≡◌, ◌≢◌, IfSome, None};
 ghost use Rattle.jp_c.specs.Numbers.{document_part_of, form_of, part_of, profile_of};
 ghost use Rattle.jp_document.specs.Faults.{document_fault_number};

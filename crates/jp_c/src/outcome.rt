@@ -1,4 +1,5 @@
 //! What a call answers, and how it is told to C.
+
 ghost use Rattle.std.specs.Prelude.{◌≡◌, MatchResult, string_bytes};
 ghost use Rattle.jp_c.specs.Limit.{MakesSteps};
 ghost use Rattle.jp_c.specs.Outcome.{ReportsOutcome, filled, report_of, told_text};
@@ -63,7 +64,8 @@ impl Outcome {
         }
     }
 
-    /// The same to keep; the memory of another text serves where there is none.
+    /// The text that the buffer is for, to keep; the memory of another text serves where there
+    /// is none.
     pub(crate) fn into_text(self, mut spare: String) -> String
         ensures { string_bytes result ≡ told_text self }
     {

@@ -1,4 +1,5 @@
 //! How a document that is refused is told: with the byte where it goes wrong.
+
 ghost use Rattle.std.specs.Prelude.{◌≡◌, IfOk, IfSome};
 ghost use Rattle.jp_document.specs.Document.{Defect, HasDefect};
 ghost use Rattle.jp_c.specs.Misread.{IsMisreadAt};
@@ -66,7 +67,7 @@ fn known_or_found(alloc: Global, document: &[u8], known: Option<usize>) -> Resul
 }
 
 impl Answered {
-    /// The same, with its fault as it is told.
+    /// This answer, with its fault as it is told.
     pub(crate) fn placed(self, alloc: Global, document: &[u8], known: Option<usize>) -> Answered
         requires fault { HasOfBytes document.now self.outcome }
         requires known { IfSome known (IsMisreadAt document.now) }

@@ -1,4 +1,5 @@
 //! The calls with handles.
+
 ghost use Rattle.std.specs.Prelude.{◌≡◌, [], IfErr, IfOk, None, Some, option_map};
 ghost use Rattle.jp_c.specs.Asked.{IsAcceptedInBytes, IsNoDocument, IsQueryFault};
 ghost use Rattle.jp_c.specs.Handles.{IsDocumentMade, IsQueryMade, IsSelectOutcome};

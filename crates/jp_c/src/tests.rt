@@ -1,4 +1,5 @@
 //! The calls as C makes them, with values by hand.
+
 mod asking;
 
 use crate::{

@@ -60,7 +60,7 @@ pub fn run_eval<R: Source, W: Writer>(
     )
 }
 
-/// The same, and after `Document` what was read is in `kept`.
+/// `run_eval`, which after `Document` leaves what was read in `kept`.
 pub(crate) fn run_eval_keeping<R: Source, W: Writer>(
     alloc: Global,
     query: &str,

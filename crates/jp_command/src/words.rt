@@ -86,7 +86,7 @@ pub fn query_command<'w>(
     with_flag(alloc, command, "extended", "Lets the query call distinct")
 }
 
-/// The same with the flag `--explain`.
+/// A subcommand of `query_command` with the flag `--explain`.
 fn task_command<'w>(
     alloc: Global,
     name: &'w str,

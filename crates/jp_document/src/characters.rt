@@ -1,4 +1,5 @@
 //! The characters of the names in normalized paths (RFC 9535 section 2.7).
+
 ghost use Rattle.std.specs.Prelude.{◌≡◌, ◌<◌, true};
 ghost use Rattle.jp_document.specs.Private.PathRules.{is_one_of, is_plain, is_letter, meant};
 ghost use Rattle.jp_document.specs.Private.PathRules.{is_low_digit, is_hex_digit, hex_value};

@@ -1,4 +1,5 @@
 //! The children of a node (RFC 9535 section 1.1).
+
 ghost use Rattle.std.specs.Prelude.{◌≡◌, map, IfOk};
 ghost use Rattle.jp_document.specs.Node.{children, node_of};
 

@@ -1,4 +1,5 @@
 //! Why bytes are refused.
+
 ghost use Rattle.std.specs.Prelude.{◌≡◌};
 ghost use Rattle.jp_document.specs.declared.fault.DocumentFault.TheVariants.{NoMemory};
 
@@ -50,7 +51,7 @@ impl DocumentFault {
     ghost use Rattle.jp_document.specs.Faults.{document_fault_number, document_fault_name};
     ghost use Rattle.jp_document.specs.Faults.{document_fault_text};
 
-    /// The same fault. The only error is that memory ran out.
+    /// A copy of the fault. The only error is that memory ran out.
     pub fn copy(&self, alloc: Global) -> Result<DocumentFault, AllocError>
         ensures { IfOk result (λ fault. document_fault_text fault ≡ document_fault_text self.now) }
     {

@@ -1,4 +1,5 @@
 //! Laws about the definitions, each the contract of a function that does nothing.
+
 ghost use Rattle.jp_document.specs.ChildNodes.{ChildrenAreExact};
 ghost use Rattle.jp_document.specs.Laws.{DocumentNamesRise, DocumentOrDefect, PathsDiffer};
 ghost use Rattle.jp_document.specs.Laws.{NodesDiffer};

@@ -23,7 +23,7 @@ impl OwnedStep {
     ghost use Rattle.std.specs.Prelude.{◌≡◌};
     ghost use Rattle.jp_document.specs.Location.{step_of, owned_step};
 
-    /// The same step, which borrows the name.
+    /// This step, with its name borrowed.
     pub fn as_step(&self) -> Step<'_>
         ensures { step_of result ≡ owned_step self.now }
     {

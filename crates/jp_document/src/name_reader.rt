@@ -1,4 +1,5 @@
 //! Reading the names of normalized paths (RFC 9535 section 2.7).
+
 ghost use Rattle.std.specs.Prelude.{string_bytes};
 ghost use Rattle.jp_reading.specs.Views.{Gives};
 ghost use Rattle.jp_document.specs.Private.PathRules as rules;

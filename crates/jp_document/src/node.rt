@@ -1,5 +1,6 @@
 //! Nodes (RFC 9535 section 1.1): a location with the value that stands there, both borrowed from
 //! the document.
+
 ghost use Rattle.std.specs.Prelude.{◌≡◌, option_map, IfOk};
 ghost use Rattle.jp_document.specs.Location.{named, nth};
 ghost use Rattle.jp_document.specs.Node.{child_of, node_of};
@@ -67,7 +68,7 @@ impl<'d> Node<'d> {
         self.value
     }
 
-    /// The same node. The only error is that memory ran out.
+    /// A copy of the node, which lends the same value. The only error is that memory ran out.
     pub fn copy(&self, alloc: Global) -> Result<Node<'d>, AllocError>
         ensures { IfOk result (λ n. n ≡ self.now) }
     {

@@ -1,4 +1,5 @@
 //! Normalized paths (RFC 9535 section 2.7).
+
 ghost use Rattle.std.specs.Prelude.{◌≡◌, ◌++◌, map, string_bytes, IfOk, OnOk};
 ghost use Rattle.jp_document.specs.Appending.{IsPartAppended};
 ghost use Rattle.jp_document.specs.Location.{step_of, owned_step};

@@ -1,4 +1,5 @@
 //! Why a text is no normalized path.
+
 ghost use Rattle.std.specs.Prelude.{◌≡◌};
 
 use jp_reading::Stop;

@@ -1,4 +1,5 @@
 //! Reading normalized paths (RFC 9535 section 2.7).
+
 ghost use Rattle.std.specs.Prelude.{◌≡◌, map, false, IfOk, IfErr};
 ghost use Rattle.std.specs.List.{list_any};
 ghost use Rattle.jp_reading.specs.Views.{Gives};

@@ -1,4 +1,5 @@
 //! From a reading of `serde_json` to a value.
+
 ghost use Rattle.std.specs.Prelude.{◌≡◌, ◌&&◌, map, Some, true, IfOk, IfErr};
 ghost use Rattle.serde_json.specs.View.{view, number_view, items_view, members_view};
 ghost use Rattle.jp_document.specs.Document.{IsDocument, IsDocumentFault, value_of_data};

@@ -1,4 +1,5 @@
 //! How texts are spelled between quotes.
+
 ghost use Rattle.std.specs.Prelude.{◌≡◌, ◌+◌, ◌<◌, ◌≤◌, ◌++◌, ◌∷◌, [], true, false, length};
 ghost use Rattle.std.specs.Prelude.{take, drop, slice_index, string_bytes, OnOk};
 ghost use Rattle.std.specs.Prelude.{All, ◌==◌, nat_lt};

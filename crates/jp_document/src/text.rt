@@ -1,4 +1,5 @@
 //! Texts and whole numbers, as they stand in the text of a value.
+
 ghost use Rattle.std.specs.Prelude.{◌≡◌, ◌++◌, string_bytes, OnOk};
 ghost use Rattle.std.specs.Fmt.{signed_decimal};
 ghost use Rattle.jp_document.specs.Appending.{IsPartAppended};

@@ -1,4 +1,5 @@
 //! Why a reading has no value.
+
 ghost use Rattle.std.specs.Prelude.{◌≡◌};
 ghost use Rattle.jp_document.specs.declared.value_fault.ValueFault.TheVariants.{NoMemory};
 

@@ -1,4 +1,5 @@
 //! The nodes of a nodelist, to be taken one by one.
+
 ghost use Rattle.std.specs.Prelude.{◌≡◌, false};
 ghost use Rattle.jp_evaluate.specs.Lent.{steps_of};
 

@@ -1,4 +1,5 @@
 //! What an evaluation goes by, and the functions that ask its matcher.
+
 ghost use Rattle.jp_evaluate.specs.Stopping.{StopsSpent};
 ghost use Rattle.jp_select.specs.Steps.{Takes};
 ghost use Rattle.std.specs.Prelude.{◌≡◌, ℕ, List, IfOk, Some};
@@ -85,7 +86,7 @@ fn text_answer<'q, V, M: Matching>(
     Ok(answer)
 }
 
-/// The same of a pattern that was read.
+/// What `match` or `search` answers of a text and a pattern that was read.
 fn is_matched<V, M: Matching>(
     evaluation: &Evaluation<'_, V, M>,
     function: Option<Function>,

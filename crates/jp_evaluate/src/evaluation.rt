@@ -1,4 +1,5 @@
 //! The evaluation of a query, node by node.
+
 ghost use Rattle.std.specs.Prelude.{◌≡◌, IfOk, false, map};
 ghost use Rattle.jp_held.specs.Held.{document_of};
 ghost use Rattle.jp_document.specs.Node.{node_of};

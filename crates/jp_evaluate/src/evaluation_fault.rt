@@ -1,4 +1,5 @@
 //! Why an evaluation gives no more nodes.
+
 ghost use Rattle.std.specs.Prelude.{◌≡◌};
 ghost use Rattle.jp_evaluate.specs.declared.evaluation_fault.EvaluationFault.TheVariants.{NoMemory};
 ghost use Rattle.jp_evaluate.specs.declared.evaluation_fault.EvaluationFault.TheVariants.{StepsUsedUp};

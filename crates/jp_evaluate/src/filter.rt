@@ -1,4 +1,5 @@
 //! The truth of the expressions of filters (RFC 9535 section 2.3.5.2).
+
 ghost use Rattle.jp_evaluate.specs.Stopping.{StopsSpent};
 ghost use Rattle.jp_select.specs.Steps.{Takes};
 ghost use Rattle.std.specs.Prelude.{◌≡◌, ◌⊎◌, IfOk, None, map, true};

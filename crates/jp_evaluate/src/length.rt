@@ -1,4 +1,5 @@
 //! The lengths of values (RFC 9535 section 2.4.4).
+
 ghost use Rattle.std.specs.Prelude.{◌≡◌, IfOk, OnErr, Some, length};
 ghost use Rattle.std.specs.Str.{chars};
 ghost use Rattle.jp_select.specs.Comparable.{comparable_of};
@@ -44,7 +45,7 @@ fn size_of<'a, V: Lent + 'a>(value: Comparable<'a, V>) -> Option<usize>
     }
 }
 
-/// The same of a value that is lent.
+/// How many characters, items or members a value that is lent has; None for all other values.
 fn lent_size<'a, V: Lent + 'a>(value: V) -> Option<usize>
     ensures { result ≡ size_of (Some (V.meaning value)) }
 {

@@ -1,4 +1,5 @@
 //! The nodes of a nodelist as they are lent, to be taken one by one.
+
 ghost use Rattle.std.specs.Prelude.{◌≡◌, ◌<◌, ◌+◌, ◌++◌, ◌∷◌, IfNone, IfOk, IfSome, OnOk, [], false, filter, length, true};
 ghost use Rattle.std.specs.Prelude.{if◌then◌else◌, MatchOption, OnSome, map, option_to_list, slice_get};
 ghost use Rattle.std.specs.Iterator.{at_most};
@@ -90,8 +91,8 @@ pub fn lent_nodes<'d: 'q, 'q, V: Selectable + 'd, M: Matching>(
     lent_nodes_with(alloc, root, query, matcher, patterns, Steps::unlimited())
 }
 
-/// The same with the patterns that other evaluations have read, which are not read again, and with
-/// the steps that it may make.
+/// `lent_nodes` with the patterns that other evaluations have read, which are not read again, and
+/// with the steps that it may make.
 pub fn lent_nodes_with<'d: 'q, 'q, V: Selectable + 'd, M: Matching>(
     alloc: Global,
     root: V,
@@ -110,7 +111,7 @@ pub fn lent_nodes_with<'d: 'q, 'q, V: Selectable + 'd, M: Matching>(
     lent_nodes_in(alloc, root, query, matcher, patterns, frames, steps)
 }
 
-/// The same in the memory of the frames of other evaluations.
+/// `lent_nodes_with` in the memory of the frames of other evaluations.
 pub fn lent_nodes_in<'d: 'q, 'q, V: Selectable + 'd, M: Matching>(
     alloc: Global,
     root: V,
@@ -163,7 +164,7 @@ impl<'d: 'q, 'q, V: Selectable + 'd, M: Matching> LentNodes<'d, 'q, V, M> {
         (patterns, steps)
     }
 
-    /// The same, and the memory of its frames, with none in it.
+    /// What `into_parts` gives back, and the memory of the frames, with none in it.
     pub fn into_rooms(self) -> (Patterns, Steps, Vec<Frame<'d, V>>)
         ensures patterns { texts_in result.0 ≡ filter is_short (texts_kept self.entry) }
         ensures steps { result.1 ≡ steps_of self.entry }

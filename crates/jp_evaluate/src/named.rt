@@ -1,4 +1,5 @@
 //! The location that a query names (RFC 9535 section 2.7).
+
 ghost use Rattle.std.specs.Prelude.{◌≡◌, [], if◌then◌else◌, IfOk, IfSome, None, Some};
 ghost use Rattle.std.specs.Prelude.{is_some, map, option_map, true};
 ghost use Rattle.jp_document.specs.Location.{step_of};
@@ -32,7 +33,8 @@ pub fn named_location<'q>(
     }
 }
 
-/// The same in the memory of a list, in place of what it holds: whether the query names a location.
+/// `named_location` in the memory of a list, in place of what it holds: whether the query names a
+/// location.
 pub fn name_location<'q>(
     query: &'q Checked,
     location: &mut Vec<Step<'q>>,

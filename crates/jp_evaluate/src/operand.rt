@@ -1,4 +1,5 @@
 //! The values of literals (RFC 9535 section 2.3.5.1).
+
 ghost use Rattle.std.specs.Prelude.{◌≡◌, Some, pos};
 ghost use Rattle.jp_document.specs.Value.{whole};
 ghost use Rattle.jp_tree.specs.Views.{literal_of};

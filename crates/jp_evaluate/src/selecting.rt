@@ -1,4 +1,5 @@
 //! The nodes of a query inside an expression, one by one, each once where that is asked.
+
 ghost use Rattle.jp_evaluate.specs.Stopping.{StopsSpent};
 ghost use Rattle.jp_select.specs.Steps.{Takes};
 ghost use Rattle.std.specs.Prelude.{◌≡◌, ◌∷◌, [], IfOk, MatchOption, Some};

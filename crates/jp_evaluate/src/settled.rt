@@ -1,6 +1,7 @@
 //! Queries whose filters have answers in the places of absolute queries, which give the same at each
 //! value that is tested (RFC 9535 sections 2.2.2 and 2.3.5). Those that name a location stay: to
 //! follow one is as cheap as to look an answer up.
+
 ghost use Rattle.std.specs.Prelude.{◌≡◌, IfOk, map};
 ghost use Rattle.jp_tree.specs.Tree.{segments as segment_trees, selectors as selector_trees};
 ghost use Rattle.jp_tree.specs.Views.{query_of, segment_of, selector_of};

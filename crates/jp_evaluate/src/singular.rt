@@ -1,4 +1,5 @@
 //! Singular queries (RFC 9535 section 2.3.5.1), followed from value to value. They take no memory.
+
 ghost use Rattle.std.specs.Prelude.{◌≡◌, option_map};
 ghost use Rattle.jp_document.specs.Node.{root_of};
 ghost use Rattle.jp_tree.specs.declared.tree.Query.{out-Query};

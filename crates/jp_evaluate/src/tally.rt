@@ -1,6 +1,7 @@
 //! The number of nodes that segments reach from a value, told without a walk to each: a value of
 //! the document to which several ways lead is taken once, with how many they are (RFC 9535 section
 //! 2.1.2). It keeps the values from which it has to go on, and no list of nodes.
+
 ghost use Rattle.std.specs.Prelude.{◌≡◌, ◌↔◌, ◌≤◌, ◌<◌, ◌+◌, ◌*◌, ℕ, [], ◌∷◌, IfOk, IfSome, IsTrue, OnOk, length};
 ghost use Rattle.std.specs.Prelude.{option_map, slice_index_or, sum_by, Some, map};
 ghost use Rattle.std.specs.Option.{option_map_or};

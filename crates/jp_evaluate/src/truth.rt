@@ -1,4 +1,5 @@
 //! The truth of a filter's expression over a whole document.
+
 ghost use Rattle.jp_evaluate.specs.Stopping.{StopsSpent};
 ghost use Rattle.jp_select.specs.Steps.{Takes};
 ghost use Rattle.std.specs.Prelude.{◌≡◌, IfOk, filter as those_of};

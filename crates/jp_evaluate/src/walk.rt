@@ -1,5 +1,6 @@
 //! The walk of a query through a document, from choice to choice (RFC 9535 section 2.1.2). It keeps
 //! a frame for each value on the way from where it begins to where it stands, and no list of nodes.
+
 ghost use Rattle.jp_evaluate.specs.Stopping.{GivenCounts, StopsSpent};
 ghost use Rattle.std.specs.Prelude.{◌≡◌, ◌↔◌, ◌<◌, ◌++◌, ◌∷◌, [], IfNone, IfOk, IfSome, IsTrue};
 ghost use Rattle.std.specs.Prelude.{MatchOption, None, OnOk, OnSome, length, map, min, option_and_then};
@@ -91,7 +92,7 @@ impl<'d, V: Selectable + 'd> Walk<'d, V> {
         Walk::within(Vec::new(alloc), value)
     }
 
-    /// The same in the memory of other frames.
+    /// A walk from this value, in the memory of other frames.
     pub(crate) fn within(mut frames: Vec<Frame<'d, V>>, value: V) -> Walk<'d, V>
         ensures first { result.first ≡ Some value }
         ensures frames { walk_frames result ≡ [] }

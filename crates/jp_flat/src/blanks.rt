@@ -1,4 +1,5 @@
 //! What may stand between tokens, and where words end.
+
 ghost use Rattle.std.specs.Prelude.{◌≡◌, ◌≤◌, length, drop, true};
 ghost use Rattle.json.specs.Lex.{between, lex};
 ghost use Rattle.json.specs.Word.{is_space};

@@ -1,4 +1,5 @@
 //! Lists and objects whose parts are all read.
+
 ghost use Rattle.std.specs.Prelude.{◌≡◌, ◌+◌, ◌^◌, ◌<◌, ◌≤◌, ℕ, suc, true, IfSome, IsTrue};
 ghost use Rattle.std.specs.Prelude.{List, [], OnSome, Some, drop, length, take};
 ghost use Rattle.std.specs.Map.{keys_of};

@@ -1,4 +1,5 @@
 //! A point in a text, and the token that stands there.
+
 ghost use Rattle.std.specs.Prelude.{◌≡◌, ◌∷◌, [], true, IfSome, OnSome, Some};
 ghost use Rattle.std.specs.Bool.{MatchBool};
 ghost use Rattle.json.specs.Align.{is_good};

@@ -1,5 +1,6 @@
 //! The value at a location of a document, found while the document is read. Of values that stand
 //! elsewhere nothing is kept but unescaped texts.
+
 ghost use Rattle.std.specs.Prelude.{◌≡◌, ◌<◌, IfSome, OnSome, length, option_map};
 ghost use Rattle.jp_document.specs.Location.{named, nth};
 ghost use Rattle.jp_flat.specs.Flat.{Grows, shown};

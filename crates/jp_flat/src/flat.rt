@@ -1,4 +1,5 @@
 //! Documents in tables.
+
 ghost use Rattle.std.specs.Prelude.{◌≡◌, [], true, IfOk, IfSome, OnSome, Some, map, string_bytes};
 ghost use Rattle.jp_document.specs.Document.{IsDocument};
 ghost use Rattle.jp_document.specs.Location.{step_of};
@@ -53,7 +54,7 @@ impl<'t> Flat<'t> {
         FlatValue::of(&self.tables, self.root)
     }
 
-    /// The same document, which borrows nothing. The only error is that memory ran out.
+    /// This document, borrowing nothing. The only error is that memory ran out.
     pub fn owned(self, alloc: Global) -> Result<Flat<'static>, AllocError>
         ensures { IfOk result (λ f. document_in f ≡ document_in self.entry) }
     {

@@ -1,4 +1,5 @@
 //! Values of documents in tables, wherever they stand.
+
 ghost use Rattle.std.specs.Prelude.{◌≡◌, ◌<◌, true, OnSome, length, option_map, slice_get};
 ghost use Rattle.jp_document.specs.Value.{list_length};
 ghost use Rattle.jp_flat.specs.Flat.{is_flat, meaning, shown};

@@ -1,4 +1,5 @@
 //! The values of a document in tables, as values that are lent.
+
 ghost use Rattle.jp_reading.proofs.Conjunctions.{and-right};
 ghost use Rattle.jp_flat.specs.FlatValue.{lent_flat};
 

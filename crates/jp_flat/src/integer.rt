@@ -1,4 +1,5 @@
 //! Whole numbers of 64 bits from their characters.
+
 ghost use Rattle.std.specs.Prelude.{◌≡◌, ◌<◌, ◌==◌, ◌^◌, ◌-◌, ◌≤ℤ◌, ◌<ℤ◌, pos, negsuc, true, false};
 ghost use Rattle.std.specs.Prelude.{IfSome, IsTrue, Some, length, slice_index};
 ghost use Rattle.serde_json.specs.Data.{unsigned, negative};

@@ -1,4 +1,5 @@
 //! What stands in the tables of a document: items and members, by the offsets of their parts.
+
 ghost use Rattle.std.specs.Prelude.{◌≡◌, negsuc, pos};
 ghost use Rattle.jp_flat.specs.Flat.{number_of};
 

@@ -1,4 +1,5 @@
 //! Names that are sorted by their bytes.
+
 ghost use Rattle.std.specs.Prelude.{◌≡◌, ◌<◌, get_or, take, true};
 ghost use Rattle.jp_flat.specs.Private.Fronts.{are_bytes, front_of};
 
@@ -38,8 +39,8 @@ fn front_of(name: &[u8]) -> u64
     }
 }
 
-/// The same for names that may be shorter, out of the way of the others: where eight bytes are known
-/// to stand there, none of them is looked for.
+/// `front_of` of names that may be shorter, out of the way of the others: where eight bytes are
+/// known to stand there, none of them is looked for.
 #[inline(never)]
 fn front_of_short(name: &[u8]) -> u64
     ensures front { result ≡ front_of 8 name.now }

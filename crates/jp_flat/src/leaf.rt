@@ -1,4 +1,5 @@
 //! Values that have no parts, which go to the tables as they are read.
+
 ghost use Rattle.std.specs.Prelude.{◌≡◌, ◌<◌, ◌∷◌, IfSome, OnSome, length, true};
 ghost use Rattle.json.specs.Align.{is_good};
 ghost use Rattle.jp_flat.specs.Flat.{Grows, shown};

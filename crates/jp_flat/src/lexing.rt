@@ -1,4 +1,5 @@
 //! The token at an offset (RFC 8259 sections 2, 3 and 6): whole numbers are the only ones.
+
 ghost use Rattle.std.specs.Prelude.{◌≡◌, ◌≤◌, ◌<◌, ◌+◌, ◌-◌, ◌==◌, ◌⊎◌, IfSome, Some, drop, length};
 ghost use Rattle.std.specs.Prelude.{slice_index, take, true, false};
 ghost use Rattle.json.specs.Lex.{after_value, begins_colon, between, fresh, lex, may_begin};

@@ -1,4 +1,5 @@
 //! Parts that move from one table to another.
+
 ghost use Rattle.std.specs.Prelude.{◌≡◌, ◌≤◌, ◌++◌, OnSome, drop, length, take};
 
 use std::mem::swap;

@@ -1,4 +1,5 @@
 //! Whole numbers from their characters.
+
 ghost use Rattle.std.specs.Prelude.{◌≡◌, ℕ, IfSome, Some};
 ghost use Rattle.jp_document.specs.Value.{whole};
 ghost use Rattle.jp_flat.specs.Flat.{Shown, flat_value, number_of};

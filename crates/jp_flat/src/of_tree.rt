@@ -1,4 +1,5 @@
 //! Tables of a value that is held as a tree.
+
 ghost use Rattle.std.specs.Prelude.{◌≡◌, suc, IfSome, OnSome, Some, map};
 ghost use Rattle.jp_document.specs.Value.{items_of, list, member_of, members_of, object, value_of};
 ghost use Rattle.jp_flat.specs.Flat.{Grows, flat_value, shown};

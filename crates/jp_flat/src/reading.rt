@@ -1,5 +1,6 @@
 //! Values from the tokens of a text, into tables. What is no document, and what fits no table, is
 //! left to others.
+
 ghost use Rattle.std.specs.Prelude.{◌≡◌, ◌<◌, ◌∷◌, [], IfSome, OnSome, length, true};
 ghost use Rattle.json.specs.Align.{is_good};
 ghost use Rattle.jp_flat.specs.Flat.{Grows, shown};

@@ -1,4 +1,5 @@
 //! Whether the names of an object rise, while it is read.
+
 ghost use Rattle.std.specs.Prelude.{◌≡◌, ◌≤◌, Some, IfSome, IsTrue, drop, length};
 ghost use Rattle.std.specs.Prelude.{true};
 ghost use Rattle.std.specs.Cmp.Lexicographic.{slice_cmp};

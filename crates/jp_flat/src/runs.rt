@@ -1,4 +1,5 @@
 //! Runs of digits, and of the bytes of a text that stand for themselves.
+
 ghost use Rattle.std.specs.Prelude.{◌≡◌, ◌≤◌, ◌<◌, ◌+◌, ◌-◌, IfSome, drop, get_or, length, map};
 ghost use Rattle.std.specs.Prelude.{take};
 ghost use Rattle.std.specs.Char.{is_ascii_digit};

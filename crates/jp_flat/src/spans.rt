@@ -1,4 +1,5 @@
 //! Where texts stand.
+
 ghost use Rattle.std.specs.Prelude.{◌≡◌, ◌+◌, ◌≤◌, IfSome, OnSome, Some};
 ghost use Rattle.std.specs.Prelude.{drop, length, option_map, take};
 ghost use Rattle.json.specs.Text.{content, plain};

@@ -1,4 +1,5 @@
 //! The tables of a document.
+
 ghost use Rattle.std.specs.Prelude.{◌≡◌, [], IfOk};
 ghost use Rattle.jp_flat.specs.Flat.{IsOwned, shown};
 
@@ -55,7 +56,7 @@ impl<'t> Tables<'t> {
         tables
     }
 
-    /// The same tables, which borrow nothing: the document's text is copied in front of the spare
+    /// These tables, borrowing nothing: the document's text is copied in front of the spare
     /// ones. The only error is that memory ran out.
     pub(crate) fn owned(self, alloc: Global) -> Result<Tables<'static>, AllocError>
         ensures { IfOk result (λ tables. IsOwned (shown self.entry) (shown tables)) }

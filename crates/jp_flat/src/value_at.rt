@@ -1,4 +1,5 @@
 //! One value of a document, without the others.
+
 ghost use Rattle.std.specs.Prelude.{◌≡◌, IfSome, map, option_map};
 ghost use Rattle.jp_document.specs.Location.{step_of};
 ghost use Rattle.jp_flat.specs.Flat.{shown};

@@ -1,4 +1,5 @@
 //! Documents: a value with its invariant.
+
 ghost use Rattle.std.specs.Prelude.{◌≡◌, map, option_map, IfOk, IfErr};
 ghost use Rattle.jp_document.specs.Value.{IsDocumentValue, value_of};
 

@@ -2,6 +2,7 @@
 //!
 //! Tables are made in one pass, which stops at the first number that is not whole. `serde_json`
 //! decides: where a later member of the same name replaces such a number, the bytes are a document.
+
 ghost use Rattle.std.specs.Prelude.{◌≡◌, IfErr, IfOk, map};
 ghost use Rattle.jp_document.specs.Document.{IsDocument, IsDocumentFault};
 ghost use Rattle.jp_document.specs.Location.{step_of};
@@ -24,7 +25,7 @@ pub fn read_flat(alloc: Global, bytes: &[u8]) -> Result<Flat<'_>, DocumentFault>
     }
 }
 
-/// The same in the memory of other documents, which an `Err` gives back.
+/// `read_flat` in the memory of other documents, which an `Err` gives back.
 pub fn read_into(alloc: Global, room: Room, bytes: &[u8]) -> Result<Flat<'_>, (Room, DocumentFault)>
     ensures ok { IfOk result (λ f. IsDocument bytes.now (document_in f)) }
     ensures fault { IfErr result (λ e. IsDocumentFault bytes.now e.1) }
@@ -54,7 +55,7 @@ pub fn read_value_at<'t>(
     }
 }
 
-/// The same in the memory of other documents, which an `Err` gives back.
+/// `read_value_at` in the memory of other documents, which an `Err` gives back.
 pub fn read_value_into<'t>(
     alloc: Global,
     room: Room,

@@ -11,7 +11,7 @@ use Rattle.jp_reading.specs.Numbers.{is_digit, is_leading_digit}
 use Rattle.jp_reading.specs.Texts.{Text, is_blank}
 use Rattle.jp_json.specs.Language.{Language, word, One, ◌⌢◌, Either, Optional, Times, Any}
 
--- ---- section 2: blanks, and the six structural characters
+-- ---- RFC 8259 section 2: blanks, and the six structural characters
 
 -- ws = *( space / tab / line feed / carriage return )
 abbrev pub blanks : Language
@@ -25,7 +25,7 @@ structural c = blanks ⌢ word (c ∷ []) ⌢ blanks
 abbrev pub separated : Language → Language
 separated P = P ⌢ Any (structural comma ⌢ P)
 
--- ---- section 7: strings
+-- ---- RFC 8259 section 7: strings
 
 -- unescaped = %x20-21 / %x23-5B / %x5D-10FFFF
 abbrev pub is_unescaped : ℕ → Bool
@@ -56,7 +56,7 @@ char = Either (One is_unescaped) escaped
 abbrev pub string : Language
 string = word (double_quote ∷ []) ⌢ Any char ⌢ word (double_quote ∷ [])
 
--- ---- section 6: numbers
+-- ---- RFC 8259 section 6: numbers
 
 -- *DIGIT
 abbrev pub digits : Language
@@ -89,7 +89,7 @@ exp = One is_e ⌢ Optional (One is_sign) ⌢ some_digits
 abbrev pub number : Language
 number = Optional (word (minus ∷ [])) ⌢ int ⌢ Optional frac ⌢ Optional exp
 
--- ---- sections 3 to 5: values, over the values one level further in
+-- ---- RFC 8259 sections 3 to 5: values, over the values one level further in
 
 -- false / null / true
 abbrev pub literal_name : Language
@@ -118,7 +118,7 @@ abbrev pub value : ℕ → Language
 value zero = scalar
 value (suc n) = Either scalar (Either (array (value n)) (object (value n)))
 
--- ---- section 2: JSON-text = ws value ws
+-- ---- RFC 8259 section 2: JSON-text = ws value ws
 
 -- a JSON text of at most n levels
 abbrev pub json_text : ℕ → Language

@@ -1,4 +1,5 @@
 //! Values that borrow nothing, made from values that are lent.
+
 ghost use Rattle.std.specs.Prelude.{◌≡◌, IfOk, map, string_bytes};
 ghost use Rattle.jp_document.specs.Location.{entries, step_of};
 ghost use Rattle.jp_document.specs.Value.{member_of, value_of};
@@ -10,7 +11,7 @@ use crate::seen::Seen;
 use jp_document::{Json, Member, Step};
 use std::alloc::{AllocError, Global};
 
-/// The same value, which borrows nothing. The only error is that memory ran out.
+/// A copy of a lent value, which borrows nothing. The only error is that memory ran out.
 #[cycle(copying)]
 pub fn json_of<'d, V: Lent + 'd>(alloc: Global, value: V) -> Result<Json, AllocError>
     ensures { IfOk result (λ j. value_of j ≡ V.meaning value) }

@@ -1,4 +1,5 @@
 //! The values of a document, as values that are lent.
+
 ghost use Rattle.jp_document.specs.DocumentValue.{lent_value};
 
 use crate::json_form::{count, seen};

@@ -1,4 +1,5 @@
 //! A `Json`, as a value that is lent. It need not be of a document.
+
 ghost use Rattle.std.specs.Prelude.{◌≡◌, length};
 ghost use Rattle.std.specs.Borrow.{Bor};
 ghost use Rattle.jp_document.specs.Location.{entries};

@@ -1,4 +1,5 @@
 //! Values that are lent.
+
 ghost use Rattle.std.specs.Prelude.{◌≡◌, ◌<◌, OnSome, length, option_map, slice_get};
 ghost use Rattle.jp_document.specs.Location.{child_entry, entries, named};
 ghost use Rattle.jp_document.specs.Value.{IsDocumentValue, Value, list_length};

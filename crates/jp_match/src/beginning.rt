@@ -27,7 +27,7 @@ pub(crate) fn may_begin(pattern: &Pattern, c: char, tests: &mut Tests) -> bool
     }
 }
 
-/// The same for branches.
+/// Whether a word of one of the branches may begin with the character.
 #[cycle(begins)]
 fn any_may_begin(parts: &[Pattern], c: char, tests: &mut Tests) -> bool
     ensures never { result ≡ false → NeverBegins (Language (branches (map tree parts.now))) c }
@@ -41,7 +41,7 @@ fn any_may_begin(parts: &[Pattern], c: char, tests: &mut Tests) -> bool
     false
 }
 
-/// The same for pieces: for the first of them.
+/// Whether a word of pieces may begin with the character: by the first of them.
 #[cycle(begins)]
 fn first_may_begin(parts: &[Pattern], c: char, tests: &mut Tests) -> bool
     ensures never { result ≡ false → NeverBegins (Language (pieces (map tree parts.now))) c }
@@ -53,7 +53,7 @@ fn first_may_begin(parts: &[Pattern], c: char, tests: &mut Tests) -> bool
     may_begin(first, c, tests)
 }
 
-/// The same for a repeat.
+/// Whether a word of a repeat may begin with the character.
 #[cycle(begins)]
 fn repeat_may_begin(
     inner: &Pattern,

@@ -23,7 +23,7 @@ pub(crate) struct Counts {
 }
 
 impl Counts {
-    /// The same so many times, and rounds that one of them has besides.
+    /// These counts so many times, and rounds that one copy has besides.
     fn times(self, copies: u32, own: u64) -> Counts
         requires positions { self.positions ≤ 4097 }
         requires rounds { self.rounds ≤ 2 ^ 31 }
@@ -56,7 +56,7 @@ pub(crate) fn counts_of(pattern: &Pattern) -> Counts
     }
 }
 
-/// The same for branches, or for pieces.
+/// Counts branches, or pieces, together.
 #[cycle(counts)]
 fn counts_of_all(parts: &[Pattern]) -> Counts
     ensures positions { result.positions ≡ min (positions_of (pieces (map tree parts.now))) 4097 }
@@ -73,7 +73,7 @@ fn counts_of_all(parts: &[Pattern]) -> Counts
     Counts { positions, rounds }
 }
 
-/// The same for a repeat: without a most its last copy goes on.
+/// Counts all copies of a repeat: without a most its last copy goes on.
 #[cycle(counts)]
 fn counts_of_repeat(inner: &Pattern, least: u32, most: Option<u32>) -> Counts
     ensures positions { result.positions

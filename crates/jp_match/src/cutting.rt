@@ -47,7 +47,7 @@ fn cut_each(alloc: Global, parts: &[Pattern], chars: usize) -> Result<Vec<Patter
     Ok(all)
 }
 
-/// The same for a repeat. Where it has no word of at most so many characters, no branch is left.
+/// A repeat, cut. Where it has no word of at most so many characters, no branch is left.
 #[cycle(cut)]
 fn cut_repeat(
     alloc: Global,
@@ -101,8 +101,8 @@ fn cut_counts(inner: &Pattern, least: u32, most: Option<u32>, chars: usize) -> O
     cut_least(inner, least, chars)
 }
 
-/// The same for a repeat without a most: a least above the characters is reached by empty words
-/// alone.
+/// The counts of a repeat without a most, for texts of at most so many characters: a least above
+/// these is reached by empty words alone.
 fn cut_least(inner: &Pattern, least: u32, chars: usize) -> Option<Within>
     ensures same { IfSome result (λ within. IsSameUpTo chars (Language (repeat (tree inner.now)
         within.least within.most)) (Language (repeat (tree inner.now) least None))) }

@@ -43,7 +43,7 @@ fn each_has_empty_word(parts: &[Pattern]) -> bool
     true
 }
 
-/// The same for a repeat of the pattern.
+/// Whether the empty text is a word of the repeat of a pattern.
 #[cycle(empty_word)]
 fn repeats_empty_word(inner: &Pattern, least: u32, most: Option<u32>) -> bool
     ensures { result ≡ has_empty (repeat (tree inner.now) least most) }

@@ -60,7 +60,7 @@ fn admit(pattern: &Pattern, ruled_out: &mut [bool; 128])
     }
 }
 
-/// The same for branches.
+/// Admits the characters that words of any of the branches begin with.
 #[cycle(admits)]
 fn admit_each(parts: &[Pattern], ruled_out: &mut [bool; 128])
     ensures { Admits (Language (branches (map tree parts.now))) ruled_out.old ruled_out.new }
@@ -70,7 +70,7 @@ fn admit_each(parts: &[Pattern], ruled_out: &mut [bool; 128])
     }
 }
 
-/// The same for pieces: for the first of them.
+/// Admits the characters that words of pieces begin with: those of the first of them.
 #[cycle(admits)]
 fn admit_first(parts: &[Pattern], ruled_out: &mut [bool; 128])
     ensures { Admits (Language (pieces (map tree parts.now))) ruled_out.old ruled_out.new }
@@ -82,7 +82,7 @@ fn admit_first(parts: &[Pattern], ruled_out: &mut [bool; 128])
     admit(first, ruled_out);
 }
 
-/// The same for a repeat.
+/// Admits the characters that words of a repeat begin with.
 #[cycle(admits)]
 fn admit_repeat(inner: &Pattern, least: u32, most: Option<u32>, ruled_out: &mut [bool; 128])
     ensures { Admits (Language (repeat (tree inner.now) least most)) ruled_out.old ruled_out.new }
@@ -94,7 +94,7 @@ fn admit_repeat(inner: &Pattern, least: u32, most: Option<u32>, ruled_out: &mut 
     admit(inner, ruled_out);
 }
 
-/// The same for a class.
+/// Admits the characters of a class.
 fn admit_class(class: &CharClass, ruled_out: &mut [bool; 128])
     ensures { Admits (Language (one_of class.now.negated class.now.elements.items)) ruled_out.old
         ruled_out.new }

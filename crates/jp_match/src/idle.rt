@@ -66,7 +66,7 @@ pub(crate) fn idle_part(part: &Pattern, sweep: &Sweep) -> Option<Idle>
     }
 }
 
-/// The same for a repeat: of a class, with a most.
+/// The copies of a class that a repeat with a most has, where none has a mark.
 #[inline(always)]
 fn idle_copies(inner: &Pattern, least: u32, most: Option<u32>, sweep: &Sweep) -> Option<Idle>
     requires { IsBefore (unrolled (repeat (tree inner.now) least most)) sweep.now }

@@ -35,7 +35,7 @@ use std::mem;
 pub struct Images;
 
 impl Images {
-    /// Whether the text is in the language of the pattern (RFC 9485 section 4; RFC 9535, section
+    /// Whether the text is in the language of the pattern (RFC 9485 section 4; RFC 9535 section
     /// 2.4.6).
     pub fn whole(
         &self,
@@ -98,7 +98,7 @@ fn reached_from(
     image_of(pattern, &known, ground, offsets, tests)
 }
 
-/// The same by what is known of its parts.
+/// The offsets that a word of the pattern reaches from these, by what is known of its parts.
 pub(crate) fn image_of(
     pattern: &Pattern,
     known: &[Rows],
@@ -150,7 +150,8 @@ fn image(pattern: &Pattern, known: &[Rows], search: &mut Search<'_>) -> Result<(
     }
 }
 
-/// The same for a part of a pattern: by its rows, where they are known.
+/// Replaces the offsets by those that a part of a pattern reaches: by its rows, where they are
+/// known.
 #[cycle(images)]
 fn part_image(part: &Pattern, rows: &[Offsets], search: &mut Search<'_>) -> Result<(), AllocError>
     requires { AreKnown (Language (tree part.now)) search.old.ground.text.now (marks_of rows.now) }
@@ -162,7 +163,8 @@ fn part_image(part: &Pattern, rows: &[Offsets], search: &mut Search<'_>) -> Resu
     follow(rows, search.ground.alloc, &mut search.offsets)
 }
 
-/// The same for branches: from the same offsets each, and together what they reach.
+/// Replaces the offsets by those that branches reach: from the same offsets each, and together what
+/// they reach.
 #[cycle(images)]
 fn either_image(
     parts: &[Pattern],
@@ -184,7 +186,7 @@ fn either_image(
     Ok(())
 }
 
-/// The same for pieces, one after another.
+/// Replaces the offsets by those that pieces reach, one after another.
 #[cycle(images)]
 fn sequence_image(
     parts: &[Pattern],
@@ -200,7 +202,8 @@ fn sequence_image(
     Ok(())
 }
 
-/// The same for a repeat: the least number of words, and then more of them up to the most.
+/// Replaces the offsets by those that a repeat reaches: the least number of words, and then more of
+/// them up to the most.
 #[cycle(images)]
 fn repeat_image(
     inner: &Pattern,
@@ -232,8 +235,8 @@ fn most_after(most: Option<u32>, taken: u32) -> Option<Option<u32>>
     }
 }
 
-/// The same for exactly so many words of the pattern. Once a word more reaches the same offsets, so
-/// do all further ones.
+/// Replaces the offsets by those that exactly so many words of the pattern reach. Once a word more
+/// reaches the same offsets, so do all further ones.
 #[cycle(images)]
 fn exactly_image(
     inner: &Pattern,
@@ -255,7 +258,8 @@ fn exactly_image(
     Ok(())
 }
 
-/// The same for at most so many words of the pattern. Only the offsets that are new go on.
+/// Replaces the offsets by those that at most so many words of the pattern reach. Only the offsets
+/// that are new go on.
 #[cycle(images)]
 fn at_most_image(
     inner: &Pattern,

@@ -16,7 +16,7 @@ use std::alloc::{AllocError, Global};
 /// out. Where the pattern has at most 4,096 positions, a call makes at most one class test for each
 /// of them and each character, whatever its outcome.
 pub trait Matching {
-    /// Whether the text is in the language of the pattern (RFC 9485 section 4; RFC 9535, section
+    /// Whether the text is in the language of the pattern (RFC 9485 section 4; RFC 9535 section
     /// 2.4.6).
     fn whole(
         &self,
@@ -42,7 +42,7 @@ pub trait Matching {
             pattern.now)) (chars text.now)) }
         ensures tests { KeepsBound (tree pattern.now) (chars text.now) tests.old tests.new };
 
-    /// The same as `whole`, for a pattern that was counted before.
+    /// What `whole` answers, for a pattern that was counted before.
     fn whole_counted(
         &self,
         alloc: Global,
@@ -57,7 +57,7 @@ pub trait Matching {
         self.whole(alloc, pattern.pattern(), text, tests)
     }
 
-    /// The same as `part`, for a pattern that was counted before.
+    /// What `part` answers, for a pattern that was counted before.
     fn part_counted(
         &self,
         alloc: Global,

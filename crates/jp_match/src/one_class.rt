@@ -32,7 +32,7 @@ pub(crate) fn one_class(pattern: &Pattern) -> Option<OneClass<'_>>
     }
 }
 
-/// The same for the only one of branches, or of pieces.
+/// The class that the only one of branches, or of pieces, is.
 #[cycle(one_class)]
 fn only_class(parts: &[Pattern]) -> Option<OneClass<'_>>
     ensures branch { IfSome result (λ one. IsOneClass (unrolled (branches (map tree parts.now)))
@@ -46,7 +46,7 @@ fn only_class(parts: &[Pattern]) -> Option<OneClass<'_>>
     one_class(only)
 }
 
-/// The same for a repeat: of no word or one.
+/// The class of a repeat of no word or one.
 #[cycle(one_class)]
 fn optional_class(inner: &Pattern, least: u32, most: Option<u32>) -> Option<OneClass<'_>>
     ensures { IfSome result (λ one. IsOneClass (unrolled (repeat (tree inner.now) least most))

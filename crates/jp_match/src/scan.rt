@@ -42,7 +42,7 @@ impl<'p> Scan<'p> {
         Scan::of_counted(alloc, Counted::of(pattern), anywhere)
     }
 
-    /// The same for a pattern that was counted.
+    /// A scan by a pattern that was counted.
     pub(crate) fn of_counted(
         alloc: Global,
         counted: Counted<'p>,

@@ -39,8 +39,8 @@ pub(crate) fn step(pattern: &Pattern, sweep: &mut Sweep, entered: bool) -> Reach
     }
 }
 
-/// The same for a part that follows others, by how their end is reached. A class that is not entered
-/// and has no mark, as most are, is passed over first.
+/// Moves the marks of a part that follows others, by how their end is reached. A class that is not
+/// entered and has no mark, as most are, is passed over first.
 #[cycle(step)]
 #[inline(always)]
 pub(crate) fn step_next(part: &Pattern, sweep: &mut Sweep, through: Reach) -> Reach
@@ -54,7 +54,7 @@ pub(crate) fn step_next(part: &Pattern, sweep: &mut Sweep, through: Reach) -> Re
     through.then(step(part, sweep, through.before))
 }
 
-/// The same for a class: its one position.
+/// Moves the mark of a class, which has one position, over the character.
 #[inline(always)]
 fn step_class(class: &CharClass, sweep: &mut Sweep, entered: bool) -> Reach
     requires { IsBefore (plain_class class.now.negated class.now.elements.items) sweep.old }
@@ -72,7 +72,7 @@ fn step_class(class: &CharClass, sweep: &mut Sweep, entered: bool) -> Reach
     }
 }
 
-/// The same for branches.
+/// Moves the marks of branches over the character.
 #[cycle(step)]
 pub(crate) fn step_either(parts: &[Pattern], sweep: &mut Sweep, entered: bool) -> Reach
     requires { IsBefore (unrolled (branches (map tree parts.now))) sweep.old }
@@ -86,7 +86,7 @@ pub(crate) fn step_either(parts: &[Pattern], sweep: &mut Sweep, entered: bool) -
     ended
 }
 
-/// The same for pieces: where one has ended, the next is entered.
+/// Moves the marks of pieces over the character: where one has ended, the next is entered.
 #[cycle(step)]
 fn step_sequence(parts: &[Pattern], sweep: &mut Sweep, entered: bool) -> Reach
     requires { IsBefore (unrolled (pieces (map tree parts.now))) sweep.old }
@@ -100,7 +100,7 @@ fn step_sequence(parts: &[Pattern], sweep: &mut Sweep, entered: bool) -> Reach
     through
 }
 
-/// The same for a repeat, which has marks of its own for each copy.
+/// Moves the marks of a repeat, which has some of its own for each copy, over the character.
 #[cycle(step)]
 fn step_repeat(
     inner: &Pattern,
@@ -120,8 +120,8 @@ fn step_repeat(
     }
 }
 
-/// The same for a repeat with a most. It may end before each copy, and after the last one, where
-/// there were at least the least. Copies of one class share one test of it.
+/// Moves the marks of a repeat with a most. It may end before each copy, and after the last one,
+/// where there were at least the least. Copies of one class share one test of it.
 #[cycle(step)]
 fn step_between(inner: &Pattern, least: u32, most: u32, sweep: &mut Sweep, entered: bool) -> Reach
     requires { IsBefore (between (unrolled (tree inner.now)) least most) sweep.old }
@@ -145,8 +145,8 @@ fn step_between(inner: &Pattern, least: u32, most: u32, sweep: &mut Sweep, enter
     reach
 }
 
-/// The same for copies of more than one class, each by itself. Copies without positions are all as
-/// the first.
+/// Moves the marks of copies of more than one class, each by itself. Copies without positions are
+/// all as the first.
 #[cycle(step)]
 fn step_copies(inner: &Pattern, least: u32, most: u32, sweep: &mut Sweep, entered: bool) -> Reach
     requires { IsBefore (between (unrolled (tree inner.now)) least most) sweep.old }
@@ -172,8 +172,8 @@ fn step_copies(inner: &Pattern, least: u32, most: u32, sweep: &mut Sweep, entere
     ended.or(through.only_if(least <= most))
 }
 
-/// The same for one copy. Once the size of copies is known, one that is not entered and has no mark
-/// is passed over.
+/// Moves the marks of one copy. Once the size of copies is known, one that is not entered and has
+/// no mark is passed over.
 #[cycle(step)]
 fn step_copy(inner: &Pattern, size: Size, sweep: &mut Sweep, entered: bool) -> Reach
     requires before { IsBefore (unrolled (tree inner.now)) sweep.old }
@@ -196,7 +196,7 @@ fn step_copy(inner: &Pattern, size: Size, sweep: &mut Sweep, entered: bool) -> R
     step(inner, sweep, entered)
 }
 
-/// The same for a repeat with a least and no most: the last copy goes on.
+/// Moves the marks of a repeat with a least and no most: the last copy goes on.
 #[cycle(step)]
 fn step_at_least(inner: &Pattern, least: u32, sweep: &mut Sweep, entered: bool) -> Reach
     requires before { IsBefore (at_least (unrolled (tree inner.now)) least) sweep.old }
@@ -215,8 +215,8 @@ fn step_at_least(inner: &Pattern, least: u32, sweep: &mut Sweep, entered: bool) 
     through.then(step_plus(inner, sweep, through.before))
 }
 
-/// The same for one or more words of the pattern: where one has ended, the next may begin. The mark
-/// of a class tells whether one has.
+/// Moves the marks of one or more words of the pattern: where one has ended, the next may begin.
+/// The mark of a class tells whether one has.
 #[cycle(step)]
 fn step_plus(inner: &Pattern, sweep: &mut Sweep, entered: bool) -> Reach
     requires { IsBefore (plus (unrolled (tree inner.now))) sweep.old }
@@ -231,7 +231,8 @@ fn step_plus(inner: &Pattern, sweep: &mut Sweep, entered: bool) -> Reach
     }
 }
 
-/// The same for a pattern that is no class. Without positions it has no round that is kept.
+/// Moves the marks of one or more words of a pattern that is no class. Without positions it has no
+/// round that is kept.
 #[cycle(step)]
 fn step_rounds(inner: &Pattern, sweep: &mut Sweep, entered: bool) -> Reach
     requires before { IsBefore (plus (unrolled (tree inner.now))) sweep.old }

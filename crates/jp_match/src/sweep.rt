@@ -98,7 +98,7 @@ impl Reach {
         }
     }
 
-    /// The same where the condition holds, and else nowhere.
+    /// This reach where the condition holds, and else nowhere.
     pub(crate) fn only_if(self, condition: bool) -> Reach
         ensures { result ≡ only_if condition self }
     {

@@ -21,7 +21,7 @@ pub(crate) fn step_whole(pattern: &Pattern, sweep: &mut Sweep, end: usize, enter
     }
 }
 
-/// The same for branches.
+/// Moves the marks of branches that are the whole pattern.
 fn step_branches(parts: &[Pattern], sweep: &mut Sweep, end: usize, entered: bool) -> Reach
     requires { IsAtStart (unrolled (branches (map tree parts.now))) end sweep.old }
     ensures { MovesAll (unrolled (branches (map tree parts.now))) entered sweep.old sweep.new result }
@@ -35,7 +35,8 @@ fn step_branches(parts: &[Pattern], sweep: &mut Sweep, end: usize, entered: bool
     }
 }
 
-/// The same for pieces.
+/// Moves the marks of pieces that are the whole pattern. From `end` on no piece is gone over that
+/// is not entered.
 fn step_pieces(parts: &[Pattern], sweep: &mut Sweep, end: usize, entered: bool) -> Reach
     requires { IsAtStart (unrolled (pieces (map tree parts.now))) end sweep.old }
     ensures { MovesAll (unrolled (pieces (map tree parts.now))) entered sweep.old sweep.new result }

@@ -1,4 +1,5 @@
 //! The values that a selector chooses from, one by one (RFC 9535 section 2.3).
+
 ghost use Rattle.std.specs.Prelude.{◌≡◌, ◌<◌, OnSome, option_map, slice_get};
 ghost use Rattle.jp_tree.specs.Tree.{index as index_tree, slice as slice_tree};
 ghost use Rattle.jp_tree.specs.Views.{selector_of};

@@ -1,4 +1,5 @@
 //! The sides of comparisons (RFC 9535 section 2.3.5.1), and how two of them compare.
+
 ghost use Rattle.std.specs.Prelude.{◌≡◌, ◌↔◌, IfOk, IsTrue, MatchOption, OnErr, Some, chars, false, option_map};
 ghost use Rattle.jp_document.specs.Location.{entries, step_of};
 ghost use Rattle.jp_lent.specs.Lending.{bare, seen_value, step_with};

@@ -1,4 +1,5 @@
 //! Comparisons of values and of Nothing (RFC 9535 section 2.3.5.2.2).
+
 ghost use Rattle.std.specs.Prelude.{◌≡◌, ◌↔◌, IfOk, IsTrue, OnErr};
 ghost use Rattle.jp_select.specs.Comparable.{comparable_of, side_of};
 ghost use Rattle.jp_select.specs.Steps.{IsSpent, Takes};

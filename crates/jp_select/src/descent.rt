@@ -1,4 +1,5 @@
 //! The walk over a node and its descendants in document order (RFC 9535 section 2.5.2.2).
+
 ghost use Rattle.std.specs.Prelude.{◌≡◌, ◌+◌, [], ◌++◌, false, length, map, if◌then◌else◌, IfOk};
 ghost use Rattle.std.specs.Prelude.{IfNone, option_to_list};
 ghost use Rattle.std.specs.Iterator.{at_most};

@@ -1,4 +1,5 @@
 //! What is true of the definitions that the calls cite: functions without a body, each for one law.
+
 ghost use Rattle.jp_select.specs.Laws.{ChoosesNodesAlone, EqualsIsExact, SlicesAreExact};
 ghost use Rattle.jp_select.specs.Laws.{SubtreeRises};
 

@@ -1,4 +1,5 @@
 //! What a plain selector selects at a node (RFC 9535 section 2.3).
+
 ghost use Rattle.std.specs.Prelude.{◌≡◌, IfOk, map};
 ghost use Rattle.jp_document.specs.Node.{node_of};
 ghost use Rattle.jp_tree.specs.Views.{selector_of};

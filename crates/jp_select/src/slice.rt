@@ -1,4 +1,5 @@
 //! Array slices (RFC 9535 section 2.3.4.2): which items of a list they select.
+
 ghost use Rattle.std.specs.Prelude.{◌≡◌, ◌-◌, ◌<◌, ◌≤◌, pos, negsuc, ◌+ℤ◌, ◌-ℤ◌, ◌≤ℤ◌, OnSome};
 ghost use Rattle.std.specs.Prelude.{slice_get};
 ghost use Rattle.jp_select.specs.Selectors.{bound_of, indexes_chosen, whole_of};

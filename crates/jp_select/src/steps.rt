@@ -2,6 +2,7 @@
 //!
 //! They are counted down, so that each costs one subtraction; where they are not limited the count
 //! stays at 0 when it gets there.
+
 ghost use Rattle.std.specs.Prelude.{◌≡◌, ◌+◌, ◌-◌, OnErr, OnOk, false, true};
 ghost use Rattle.jp_select.specs.Steps.{Counts, IsSpent, Takes};
 

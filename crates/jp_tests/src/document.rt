@@ -1,2 +1,3 @@
 //! Rows of normalized paths.
+
 mod paths;

@@ -1,4 +1,5 @@
 //! Nodelists, and nodes one at a time. Other rows are in jp_command's table.
+
 mod places;
 mod settled;
 mod steps;

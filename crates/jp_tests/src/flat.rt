@@ -1,4 +1,5 @@
 //! Documents in tables.
+
 mod documents;
 mod locations;
 mod values;

@@ -11,7 +11,7 @@ use std::test::Fail;
 /// Bytes, the reason, and the offset, the line and the column.
 pub type Row = (&'static [u8], JsonReason, (usize, usize, usize));
 
-/// The same with the path of a number that is not whole.
+/// A row with the path of a number that is not whole.
 pub type PathRow = (
     &'static [u8],
     JsonReason,

@@ -18,7 +18,8 @@ fn answers(alloc: Global, pattern: &Pattern, text: &str) -> Result<(bool, bool),
     Ok((whole, part))
 }
 
-/// The same by the pattern that a text spells, once counted and once not: None where they differ.
+/// What `answers` gives for the pattern that a text spells, once counted and once not: None where
+/// the two differ.
 fn answers_counted(alloc: Global, pattern: &str, text: &str) -> Result<Option<(bool, bool)>, Fail> {
     let pattern = CountedPattern::new(read_pattern(alloc, pattern)?);
     let mut tests = Tests::new();

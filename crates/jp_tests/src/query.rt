@@ -1,5 +1,6 @@
 //! The trees of queries and the spans of their components, and a refusal of each kind. Each other text
 //! that is refused is a row of jp_command's table.
+
 mod filter_texts;
 mod filters;
 mod queries;

@@ -1,3 +1,4 @@
 //! Rows of selectors, of descendants and of comparisons.
+
 mod comparisons;
 mod selectors;

@@ -1,4 +1,5 @@
 //! Why nothing is found.
+
 ghost use Rattle.std.specs.Prelude.{◌≡◌};
 ghost use Rattle.jsonpath.specs.declared.fault.FindFault.TheVariants.{NoMemory};
 ghost use Rattle.jsonpath.specs.Private.Faults.{fault_of_document, fault_of_evaluation, fault_of_refusal};

@@ -1,4 +1,5 @@
 //! A query over a document, in one call.
+
 ghost use Rattle.std.specs.Prelude.{◌≡◌, ◌≤◌, ◌++◌, ◌∷◌, [], IfErr, IfOk, OnOk, false, length, map, true};
 ghost use Rattle.std.specs.Str.{chars};
 ghost use Rattle.jp_check.specs.Accepted.{IsAcceptedAs};
@@ -76,7 +77,7 @@ pub fn find_within(
     find_with(alloc, bytes, text, profile, Steps::at_most(limit))
 }
 
-/// The same in the steps that there are. Only where these are limited they are used up.
+/// What `find` answers, in the steps that there are. Only where these are limited they are used up.
 fn find_with(
     alloc: Global,
     bytes: &[u8],

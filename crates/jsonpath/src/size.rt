@@ -1,4 +1,5 @@
 //! How many bytes a document may have.
+
 ghost use Rattle.std.specs.Prelude.{◌≡◌, IfErr, OnOk};
 ghost use Rattle.jsonpath.specs.Size.{Fits, IsTooLarge};
 ghost use Rattle.jsonpath.specs.declared.fault.FindFault.TheVariants.{DocumentTooLarge};

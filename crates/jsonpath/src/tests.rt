@@ -1,4 +1,5 @@
 //! The calls of this crate, and that those of the crates below are at hand.
+
 use crate::Profile::{Extended, Standard};
 use crate::{Document, FindFault, canon, find, find_nodes, find_within, path_text, read_query};
 use std::alloc::Global;

@@ -1,4 +1,5 @@
 //! A refusal, shown below its query.
+
 ghost use Rattle.std.specs.Prelude.{◌≡◌, IfOk, string_bytes};
 ghost use Rattle.std.specs.Str.{IsCharBoundary};
 ghost use Rattle.jsonpath_uses.specs.Caret.{caret_text, column_of, text_at};

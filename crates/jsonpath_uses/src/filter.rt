@@ -1,4 +1,5 @@
 //! A query that is part of a program, with a filter that asks for a pattern (RFC 9485).
+
 ghost use Rattle.std.specs.Prelude.{IfErr, IfOk, map};
 ghost use Rattle.std.specs.Str.{chars};
 ghost use Rattle.jsonpath.specs.Held.{document_of};

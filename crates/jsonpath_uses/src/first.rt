@@ -1,4 +1,5 @@
 //! The first node alone, which is looked for no further.
+
 ghost use Rattle.std.specs.Prelude.{◌≡◌, IfOk};
 ghost use Rattle.jsonpath.specs.Held.{document_of};
 ghost use Rattle.jsonpath.specs.Nodelist.{has_node, nodelist};

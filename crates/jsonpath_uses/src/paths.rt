@@ -1,4 +1,5 @@
 //! From nodes to paths, and from a path to a value.
+
 ghost use Rattle.std.specs.Prelude.{◌≡◌, IfErr, IfOk, map, option_map, string_bytes};
 ghost use Rattle.jsonpath.specs.Held.{document_of};
 ghost use Rattle.jsonpath.specs.Nodelist.{nodelist};

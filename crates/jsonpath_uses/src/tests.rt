@@ -1,4 +1,5 @@
 //! Each caller once, with values by hand.
+
 use crate::{all_paths, first_or, ids_of_the_1800s, is_any, show_refusal, value_at_path};
 use jsonpath::Profile::Standard;
 use jsonpath::{Document, Json, Marks, PathFault, evaluate, path_text, read_query, value_text};

@@ -1,4 +1,5 @@
 //! The calls that lend their answers.
+
 use super::done;
 use crate::{
     Handle, Kept, Lent, Report, jp_ask, jp_ask_document, jp_clear, jp_document_new, jp_query_new,

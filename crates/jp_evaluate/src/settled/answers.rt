@@ -1,4 +1,5 @@
 //! The answers of absolute queries that name no location, and what stands for them.
+
 ghost use Rattle.std.specs.Prelude.{◌≡◌, IfOk, map, option_map};
 ghost use Rattle.jp_tree.specs.Tree.{arguments as argument_trees};
 ghost use Rattle.jp_tree.specs.Views.{argument_of, call_of, expr_of, literal_of, query_of};
@@ -197,7 +198,7 @@ fn tested_once(subject: &Subject) -> Option<&Query>
     }
 }
 
-/// The same of the nodes that a call of `count` counts.
+/// The nodes that a call of `count` counts, if their query is asked once (`is_asked_once`).
 fn counted_once(call: &Call) -> Option<NodesQuery<'_>>
     ensures { option_map nodes_query result
         ≡ count_nodes (call_function (call_of call.now)) (given_query (call_of call.now)) }
@@ -208,7 +209,7 @@ fn counted_once(call: &Call) -> Option<NodesQuery<'_>>
     }
 }
 
-/// The same of the nodes that a call of `value` looks at.
+/// The nodes that a call of `value` looks at, if their query is asked once.
 fn valued_once(call: &Call) -> Option<NodesQuery<'_>>
     ensures { option_map nodes_query result
         ≡ value_nodes (call_function (call_of call.now)) (given_query (call_of call.now)) }
@@ -219,7 +220,7 @@ fn valued_once(call: &Call) -> Option<NodesQuery<'_>>
     }
 }
 
-/// The same of the nodes that a call is given.
+/// The nodes that a call is given, if their query is asked once.
 fn nodes_once(call: &Call) -> Option<NodesQuery<'_>>
     ensures { option_map nodes_query result ≡ nodes_once (given_query (call_of call.now)) }
 {

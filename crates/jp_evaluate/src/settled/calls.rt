@@ -1,4 +1,5 @@
 //! Calls of filters with answers in the places of absolute queries (RFC 9535 section 2.4).
+
 ghost use Rattle.std.specs.Prelude.{◌≡◌, IfOk, map};
 ghost use Rattle.jp_tree.specs.Tree.{arguments as argument_trees};
 ghost use Rattle.jp_tree.specs.Views.{argument_of, call_of};

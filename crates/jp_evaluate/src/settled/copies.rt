@@ -1,4 +1,5 @@
 //! Copies of the smallest parts of queries, and of locations as queries.
+
 ghost use Rattle.std.specs.Prelude.{◌≡◌, IfOk, map, string_bytes};
 ghost use Rattle.jp_document.specs.Location.{step_of};
 ghost use Rattle.jp_tree.specs.Views.{literal_of, query_of, segment_of};

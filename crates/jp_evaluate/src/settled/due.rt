@@ -1,4 +1,5 @@
 //! Whether there is an absolute query to be answered inside the filters of a query.
+
 use crate::settled::answers::is_asked_once;
 use jp_tree::{Argument, Call, Expr, Operand, Query, Selector, Subject};
 

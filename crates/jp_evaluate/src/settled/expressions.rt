@@ -1,4 +1,5 @@
 //! Expressions of filters with answers in the places of absolute queries (RFC 9535 section 2.3.5.1).
+
 ghost use Rattle.std.specs.Prelude.{◌≡◌, IfOk, map};
 ghost use Rattle.jp_tree.specs.Tree.{exprs};
 ghost use Rattle.jp_tree.specs.Views.{expr_of, operand_of};

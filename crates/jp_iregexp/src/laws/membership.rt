@@ -19,7 +19,7 @@ pub fn pattern_found()
 {}
 
 /// `is_match` tells exactly the texts that match a pattern (RFC 9535 section 2.4.6), and
-/// `has_match` exactly those of which some part does (section 2.4.7).
+/// `has_match` exactly those of which some part does (RFC 9535 section 2.4.7).
 pub fn tested_matches()
     ensures whole { MatchesAreTested }
     ensures part { PartMatchesAreTested }

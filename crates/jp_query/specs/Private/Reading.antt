@@ -29,7 +29,7 @@ abbrev pub call_inside : ℕ → State → Outcome CallRest
 call_inside zero p = deep p
 call_inside (suc n) p = read (inside n) any_call p
 
--- paren-expr (section 2.3.5.1), without its `!`
+-- paren-expr (RFC 9535 section 2.3.5.1), without its `!`
 abbrev pub parenthesis_at : ℕ → State → Outcome ExprTree
 parenthesis_at n p = inside n (expression_after opening_parenthesis) p >>= λ e q. read_inside n (closed e) q
 

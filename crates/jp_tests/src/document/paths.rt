@@ -1,4 +1,5 @@
 //! Texts that are normalized paths or none.
+
 use jp_document::{OwnedStep, PathFault, Step, path_text, push_step, quote, read_path};
 use std::alloc::Global;
 use std::test::Fail;

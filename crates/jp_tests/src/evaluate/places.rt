@@ -1,4 +1,5 @@
 //! Queries inside filters that lead to values by many ways, and their steps.
+
 use jp_check::{Profile, read_query};
 use jp_evaluate::{Patterns, lent_nodes_with};
 use jp_held::Document;

@@ -1,4 +1,5 @@
 //! Absolute queries inside filters, which are asked once.
+
 use crate::evaluate::nodelist;
 use jp_check::{Profile, read_query};
 use jp_evaluate::{Patterns, lent_nodes_with};

@@ -1,4 +1,5 @@
 //! The steps that evaluations make, counted by hand.
+
 use jp_check::{Profile, read_query};
 use jp_document::DocumentValue;
 use jp_evaluate::{EvaluationFault, LentNodes, Patterns, lent_nodes_with};

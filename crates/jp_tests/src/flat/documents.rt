@@ -1,4 +1,5 @@
 //! Rows of documents, read into tables.
+
 use jp_flat::{Room, flat_document};
 use jp_lent::value_text;
 use std::alloc::{AllocError, Global};

@@ -1,4 +1,5 @@
 //! One value of a document, found while the document is read.
+
 use jp_document::Step;
 use jp_flat::{Found, Room, flat_value_at, found_value};
 use jp_lent::value_text;
@@ -96,7 +97,7 @@ fn what_is_no_document(rt: HostRuntime) -> Result<(), Fail> {
     Ok(())
 }
 
-/// The same of many documents in one memory.
+/// Values at locations of many documents, read into one memory.
 #[test]
 fn one_document_after_another(rt: HostRuntime) -> Result<(), Fail> {
     let mut room = Room::new(rt.alloc());

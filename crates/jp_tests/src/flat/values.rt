@@ -1,4 +1,5 @@
 //! Rows of look-ups in documents in tables.
+
 use jp_document::Step;
 use jp_flat::{FlatValue, flat_document};
 use jp_lent::{Seen, push_value};

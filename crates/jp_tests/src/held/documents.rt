@@ -1,4 +1,5 @@
 //! Rows of documents, their nodes, and texts of both.
+
 use jp_document::{
     DocumentFault, Node, Step, child_at, child_named, children, path_text, read_path,
 };

@@ -1,4 +1,5 @@
 //! The reader into tables beside `serde_json`.
+
 use jp_document::{Step, parsed_value};
 use jp_flat::{Room, found_value};
 use jp_held::{Document, read_flat, read_into, read_value_at};
@@ -14,7 +15,7 @@ fn by_tables(alloc: Global, text: &str) -> Result<Option<String>, AllocError> {
     }
 }
 
-/// The same, read by `serde_json`.
+/// The text of the document that `serde_json` reads, or None where it refuses it.
 fn by_serde_json(alloc: Global, text: &str) -> Result<Option<String>, AllocError> {
     match parsed_value(alloc, text.as_bytes()) {
         Ok(json) => Ok(Some(value_text(alloc, &json)?)),

@@ -1,4 +1,5 @@
 //! Comparisons of a document's values. The standard's rows are in jp_command's table.
+
 use jp_document::{Json, parsed_value};
 use jp_select::{Comparable, Steps, Stopped, compare, equal, less};
 use jp_tree::Op;

@@ -1,4 +1,5 @@
 //! Rows of selectors and descendants.
+
 ghost use Rattle.jp_document.specs.Value.{IsDocumentValue, value_of};
 
 use jp_document::{DocumentValue, Json, Node, parsed_value, path_text};
