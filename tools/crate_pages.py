@@ -172,6 +172,8 @@ def item(crate, part, path):
     if part == "src" and not users:
         users = users_of_methods(crate, path)
     told = told_users(crate, users)
+    if part == "src" and "no_mangle" in text_of(path):
+        told = "; ".join([*filter(None, [told]), "callers in C"])
     name = path.relative_to(CRATES / crate / part)
     if not head(path):
         raise Nameless(path.relative_to(ROOT))

@@ -1,4 +1,4 @@
-//! The names of kinds.
+//! The names of the kinds of refusals and of faults, as `jp_kind_name` writes them for C.
 
 ghost use Rattle.std.specs.Prelude.{◌≡◌, ℕ, IfSome, List, None};
 ghost use Rattle.jp_c.specs.Calls.{IsNameOutcome};

@@ -1,4 +1,5 @@
--- Selectors between brackets, and names after dots.
+-- Why the canonical text of selectors between brackets, or of a name after dots, has the form that
+-- the grammar gives it.
 use Rattle.std.proofs.Common.{◌≡◌, ℕ, List, [], ◌∷◌, ◌++◌, map, refl, sym, ap, codes}
 use Rattle.std.specs.List.{AllByRecursion}
 use Rattle.jp_reading.specs.Forms.{Blank, Form, word, ◌⌢◌}

@@ -1,3 +1,4 @@
+-- The files of definitions.
 pub mod Cells
 pub mod Fields
 pub mod Rows

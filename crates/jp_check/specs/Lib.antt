@@ -1,3 +1,4 @@
+-- The files of definitions.
 pub mod Accepted
 pub mod Checked
 pub mod Faults

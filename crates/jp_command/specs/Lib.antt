@@ -1,3 +1,4 @@
+-- The files of definitions.
 pub mod Limits
 pub mod Device
 pub mod Reads

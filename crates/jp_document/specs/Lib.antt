@@ -1,3 +1,4 @@
+-- The files of definitions.
 pub mod Appending
 pub mod ChildNodes
 pub mod Document

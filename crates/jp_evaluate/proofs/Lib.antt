@@ -1,3 +1,4 @@
+-- The files of lemmas. `pub` are those that proofs of other crates may name.
 pub mod Handed
 pub mod Matching
 pub mod Nodelists

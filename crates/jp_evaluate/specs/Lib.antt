@@ -1,3 +1,4 @@
+-- The files of definitions.
 pub mod Functions
 pub mod Laws
 pub mod Lent

@@ -1,3 +1,4 @@
+-- The files of definitions.
 pub mod Classes
 pub mod Explanation
 pub mod Laws

@@ -1,3 +1,4 @@
+-- The files of lemmas. `pub` are those that proofs of other crates may name.
 pub mod Ahead
 pub mod Blocks
 pub mod ByName

@@ -1,3 +1,4 @@
+-- The files of definitions.
 pub mod Flat
 pub mod FlatValue
 pub mod Private

@@ -1,0 +1,1 @@
+-- The files of lemmas. `pub` are those that proofs of other crates may name.

@@ -1,1 +1,2 @@
+-- The files of definitions.
 pub mod Held

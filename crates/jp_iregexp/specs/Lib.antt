@@ -1,3 +1,4 @@
+-- The files of definitions.
 pub mod Category
 pub mod Class
 pub mod Language

@@ -1,2 +1,3 @@
+-- The files of definitions.
 pub mod Lending
 pub mod Private

@@ -1,2 +1,3 @@
+-- The files of lemmas. `pub` are those that proofs of other crates may name.
 pub mod Emptied
 pub mod Values

@@ -1,3 +1,4 @@
+-- The files of definitions.
 pub mod Bounds
 pub mod Part
 pub mod Scan

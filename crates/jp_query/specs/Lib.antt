@@ -1,3 +1,4 @@
+-- The files of definitions.
 pub mod Grammar
 pub mod Ints
 pub mod ComponentSpans

@@ -1,3 +1,4 @@
+-- The files of definitions.
 pub mod Characters
 pub mod Forms
 pub mod Numbers

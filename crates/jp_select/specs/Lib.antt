@@ -1,3 +1,4 @@
+-- The files of definitions.
 pub mod Subtree
 pub mod Comparable
 pub mod Comparison

@@ -1,3 +1,4 @@
+-- The files of definitions.
 pub mod Functions
 pub mod Singular
 pub mod Tree

@@ -1,3 +1,4 @@
+-- The files of definitions.
 pub mod Find
 pub mod Private
 pub mod Size

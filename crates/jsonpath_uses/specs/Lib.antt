@@ -1,3 +1,4 @@
+-- The files of definitions.
 pub mod Caret
 pub mod First
 pub mod Paths

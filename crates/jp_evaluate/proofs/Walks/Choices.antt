@@ -1,4 +1,5 @@
--- The choices of a turn after another.
+-- What a frame of a walk still has to choose: its turns, which are selectors with the segments after
+-- them, one after another, and of a turn the candidates from a position on.
 use Rattle.std.proofs.Common.{◌≡◌, ℕ, suc, ◌+◌, List, [], ◌∷◌, ◌++◌, Option, Some}
 use Rattle.std.proofs.Common.{None, drop, map, option_and_then, option_map, option_to_list, Vec}
 use Rattle.std.proofs.Common.{Global, refl, ap, ap₂, sym, ◌∙◌, append_assoc, arith}

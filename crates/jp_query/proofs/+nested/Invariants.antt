@@ -1,3 +1,6 @@
+-- Each call of the cycle opens a level more, or goes on in the same one, where the functions are
+-- numbered by how far they have to go. A call that opens a level has one less left, and those 32
+-- outweigh what the numbers rise by.
 use Rattle.std.proofs.Common.{◌≡◌, ℕ, ◌+◌, ◌*◌, ◌≤◌, ◌∷◌, false, drop, length, map}
 use Rattle.std.specs.Str.{chars}
 use Rattle.std.specs.String.{string_bytes}

@@ -1,3 +1,6 @@
+-- Each call of the cycle opens a group more, or goes on in the same one, on the way from branches to
+-- a group, whose six functions are numbered from 7 down to 2. 8 is above these numbers, so a group
+-- outweighs them.
 use Rattle.std.proofs.Common.{◌≡◌, ◌+◌, ◌*◌, ◌++◌, length, map}
 use Rattle.jp_reading.specs.Characters as char
 use Rattle.jp_reading.specs.Outcome.{is_at, each}
