@@ -10,8 +10,9 @@ use crate::fault::Fault;
 use crate::limits::{CHUNK_SIZE, DOCUMENT_LIMIT};
 use std::alloc::{AllocError, Global};
 
-/// A buffer that has room for one read.
-fn chunk_buffer(alloc: Global) -> Result<Vec<u8>, AllocError>
+/// A buffer that has room for one read, of at most 65,536 bytes. The only error is that memory ran
+/// out.
+pub fn chunk_buffer(alloc: Global) -> Result<Vec<u8>, AllocError>
     ensures { IfOk result (λ chunk. vec_len chunk ≡ chunk_size) }
 {
     vec![in alloc; 0; CHUNK_SIZE]

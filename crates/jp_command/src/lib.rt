@@ -44,6 +44,7 @@ pub use explained::report_refusal;
 pub use fault::Fault;
 pub use found::{lines_at, push_found, write_found};
 pub use help::CommandHelp;
+pub use input::chunk_buffer;
 pub use limits::{DOCUMENT_LIMIT, QUERY_LIMIT};
 pub use line::{refuse_words, report, run_line, status};
 pub use lines::{Form, Spare, selected_lines, write_selected};

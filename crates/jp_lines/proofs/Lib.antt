@@ -1,3 +1,4 @@
+-- The files of lemmas. `pub` are those that proofs of other crates may name.
 pub mod Splitting
 pub mod ToldLemmas
 pub mod Told

@@ -1,9 +1,8 @@
 //! A run over the lines of an input.
 
-ghost use Rattle.std.specs.Prelude.{◌≡◌, IfOk, map, vec_len};
+ghost use Rattle.std.specs.Prelude.{◌≡◌, map};
 ghost use Rattle.jp_check.specs.declared.profile.Profile.{Profile};
 ghost use Rattle.jp_tree.specs.Views.{expr_of, query_of};
-ghost use Rattle.jp_command.specs.Limits.{chunk_size};
 ghost use Rattle.jp_lines.specs.Private.Answers.{HasNamedLocation};
 ghost use Rattle.jp_lines.specs.Private.Asking.{RunsAsked};
 ghost use Rattle.jp_lines.specs.Request.{IsTaskOf, Request, SelectBy};
@@ -20,12 +19,9 @@ use crate::tally::Tally;
 use crate::task::{Columns, Selection, Task};
 use jp_cells::Style;
 use jp_check::{Checked, CheckedFilter, Profile};
-use jp_command::{Fault, Output, Source, Writer, read_within_limit};
+use jp_command::{Fault, Output, Source, Writer, chunk_buffer, read_within_limit};
 use jp_evaluate::named_location;
-use std::alloc::{AllocError, Global};
-
-/// The most bytes that one read may give.
-const CHUNK_SIZE: usize = 65_536;
+use std::alloc::Global;
 
 /// How often an input is read at most, which is more often than any run can.
 const READS: u64 = u64::MAX;
@@ -179,11 +175,4 @@ fn pass_all<R: Source, W: Output, E: Writer>(
         pass(asked, &mut progress, &chunk[..count], output, faults)?;
     }
     Err(Stop::Run(Fault::NoMemory))
-}
-
-/// A buffer that has room for one read.
-fn chunk_buffer(alloc: Global) -> Result<Vec<u8>, AllocError>
-    ensures { IfOk result (λ chunk. vec_len chunk ≡ chunk_size) }
-{
-    vec![in alloc; 0; CHUNK_SIZE]
 }
