@@ -4,45 +4,34 @@ use Rattle.std.proofs.Common.{take, length, map, refl, ap, ap₂, sym, ◌∙◌
 use Rattle.std.proofs.Common.{inl, inr, subst}
 use Rattle.std.proofs.lemmas.Bool.{cases_lt}
 use Rattle.std.proofs.lemmas.Grind.{flat_map-append}
-use Rattle.std.proofs.lemmas.List.{append-nil}
+use Rattle.std.proofs.lemmas.List.{append-nil, take-take}
 use Rattle.std.proofs.lemmas.Option.{same_Some}
 use Rattle.std.specs.List.{flat_map, slice_get}
 use Rattle.jp_document.specs.Path.{step_text}
 use Rattle.jp_document.specs.declared.location.Step.{Step}
 use Rattle.jp_evaluate.specs.Lent.{KeepsWay, kept_of, location_of, way_of}
 use Rattle.jp_evaluate.specs.declared.lent.LentNodes.{LentNodes}
+use Rattle.jp_evaluate.proofs.Walks.Kept.{take-none}
 use Rattle.jp_command.specs.Private.Fronts.{ComesAlong, Follows, HasPathText, IsAlong, way_text}
 use Rattle.jp_command.specs.Private.Shown.{KeepsShown}
 use Rattle.jp_command.specs.declared.front.Front.{Front}
 use Rattle.jp_command.specs.declared.lines.Form.{Form}
 use Rattle.jp_command.specs.declared.lines.Form.TheVariants.{Values, Paths, Both}
 
-take_less : {X : Type 0} (k n : ℕ) (xs : List X) → k ≤ n → take k (take n xs) ≡ take k xs
-take_less zero n [] less = refl
-take_less zero zero (x ∷ xs) less = refl
-take_less zero (suc n) (x ∷ xs) less = refl
-take_less (suc k) zero xs less = absurd (omega arith)
-take_less (suc k) (suc n) [] less = refl
-take_less (suc k) (suc n) (x ∷ xs) less = ap (λ ys. x ∷ ys) (take_less k n xs (omega arith))
-
 -- what was spelled is still there where it is kept
 pub comes : {V M : Type 0} (f : Front) (v w : LentNodes V M) → HasPathText f v → KeepsWay v w → Follows f w
 comes f v w has keeps less =
     has
     ∙ ap way_text
-    (sym (take_less f.count (kept_of w) (way_of v) less)
+    (sym (take-take f.count (kept_of w) (way_of v) less)
     ∙ ap (take f.count) (sym keeps)
-    ∙ take_less f.count (kept_of w) (way_of w) less)
-
-take_nothing : {X : Type 0} (xs : List X) → take 0 xs ≡ []
-take_nothing [] = refl
-take_nothing (x ∷ xs) = refl
+    ∙ take-take f.count (kept_of w) (way_of w) less)
 
 -- of no value nothing is spelled
 pub has_none : {V M : Type 0} (f : Front) (v : LentNodes V M) → f.count ≡ 0 → string_bytes f.text ≡ []
     → HasPathText f v
 has_none f v none empty =
-    empty ∙ sym (ap (λ k. way_text (take k (way_of v))) none ∙ ap way_text (take_nothing (way_of v)))
+    empty ∙ sym (ap (λ k. way_text (take k (way_of v))) none ∙ ap way_text (take-none (way_of v)))
 
 -- what is not kept is gone
 pub goes_back : {V M : Type 0} (f g : Front) (kept : ℕ) (v : LentNodes V M) → kept ≡ kept_of v → Follows f v
@@ -58,7 +47,7 @@ take_next : {X : Type 0} (xs : List X) (i : ℕ) (x : X) → slice_get xs i ≡ 
     → take (suc i) xs ≡ take i xs ++ x ∷ []
 take_next [] i x at = absurd (cc)
 take_next (y ∷ ys) zero x at =
-    ap (λ z. z ∷ take 0 ys) (same_Some y x at) ∙ ap (λ t. x ∷ t) (take_nothing ys)
+    ap (λ z. z ∷ take 0 ys) (same_Some y x at) ∙ ap (λ t. x ∷ t) (take-none ys)
 take_next (y ∷ ys) (suc i) x at = ap (λ t. y ∷ t) (take_next ys i x at)
 
 -- one value more is spelled

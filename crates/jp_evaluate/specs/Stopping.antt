@@ -1,5 +1,5 @@
 -- What is said of the steps of a call: where it gives a node, and where it is given up.
-use Rattle.std.specs.Prelude.{◌≡◌, ℕ, Option, Result, IfErr, IfOk, OnSome}
+use Rattle.std.specs.Prelude.{◌≡◌, Option, Result, IfErr, IfOk, OnSome}
 use Rattle.jp_select.specs.Steps.{Counts, IsSpent}
 use Rattle.jp_select.specs.declared.steps.Steps.{Steps}
 use Rattle.jp_evaluate.specs.declared.evaluation_fault.EvaluationFault.{EvaluationFault}

@@ -1,9 +1,9 @@
 -- The frames that a walk keeps, and the steps to them.
-use Rattle.std.proofs.Common.{◌≡◌, ℕ, zero, suc, ◌+◌, ◌<◌, ◌≤◌, min, List, [], ◌∷◌, ◌++◌, Option, Some}
+use Rattle.std.proofs.Common.{◌≡◌, ◌≤◌, min, List, [], ◌∷◌, ◌++◌, Option, Some}
 use Rattle.std.proofs.Common.{None, take, length, map, option_map, option_to_list, refl, ap, ap₂, sym, ◌∙◌, append_assoc, Vec}
 use Rattle.std.proofs.Common.{Global, arith}
 use Rattle.std.specs.List.{flat_map, slice_get}
-use Rattle.std.proofs.lemmas.List.{append-nil, length-map, map-append, take-append-le}
+use Rattle.std.proofs.lemmas.List.{append-nil, length-map, map-append, take-append-le, take-take}
 use Rattle.jp_document.specs.Location.{Location}
 use Rattle.jp_evaluate.specs.Private.Walk.{Keeps, reached_at, step_to, steps_of, walk_frames, walk_steps}
 use Rattle.jp_evaluate.specs.declared.walk.Frame.{Frame}
@@ -12,26 +12,18 @@ use Rattle.jp_evaluate.specs.declared.walk.Walk.{Walk}
 
 -- ---- what is kept
 
-take_less : {X : Type 0} (k n : ℕ) (xs : List X) → k ≤ n → take k (take n xs) ≡ take k xs
-take_less zero n [] less = refl
-take_less zero zero (x ∷ xs) less = refl
-take_less zero (suc n) (x ∷ xs) less = refl
-take_less (suc k) zero xs less = absurd (omega arith)
-take_less (suc k) (suc n) [] less = refl
-take_less (suc k) (suc n) (x ∷ xs) less = ap (λ ys. x ∷ ys) (take_less k n xs (omega arith))
-
-take_nothing : {X : Type 0} (xs : List X) → take 0 xs ≡ []
-take_nothing [] = refl
-take_nothing (x ∷ xs) = refl
+pub take-none : {X : Type 0} (xs : List X) → take 0 xs ≡ []
+take-none [] = refl
+take-none (x ∷ xs) = refl
 
 -- of what another kept that kept no more
 pub keeps_then : {V : Type 0} (u v w : Walk V) → Keeps u v → Keeps v w → Keeps u w
 keeps_then u v w before after = (
   omega (arith, before.0, after.0),
   after.1
-      ∙ sym (take_less w.kept v.kept (walk_steps v) after.0)
+      ∙ sym (take-take w.kept v.kept (walk_steps v) after.0)
       ∙ ap (take w.kept) before.1
-      ∙ take_less w.kept v.kept (walk_steps u) after.0,
+      ∙ take-take w.kept v.kept (walk_steps u) after.0,
 )
 
 -- the steps stay, and as many are kept
@@ -41,7 +33,7 @@ keeps_all v w less same = (less, ap (take w.kept) same)
 pub keeps_none : {V : Type 0} (v w : Walk V) → w.kept ≡ 0 → Keeps v w
 keeps_none v w none = (
   omega (arith, none),
-  ap (λ k. take k (walk_steps w)) none ∙ take_nothing (walk_steps w) ∙ sym (take_nothing (walk_steps v))
+  ap (λ k. take k (walk_steps w)) none ∙ take-none (walk_steps w) ∙ sym (take-none (walk_steps v))
       ∙ ap (λ k. take k (walk_steps v)) (sym none),
 )
 
