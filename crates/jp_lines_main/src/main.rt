@@ -4,21 +4,14 @@
 //! `run_program` answers.
 #![tactic(auto)]
 
-use jp_command::{Device, buffered, unbuffered};
+use jp_command::{Device, buffered, exit_status, unbuffered};
 use jp_lines::run_program;
-use std::io::ErrorKind;
 use std::process::ExitCode;
 use std::{env, io};
 
 fn main(rt: HostRuntime) -> ExitCode {
-    match run(&rt) {
-        Ok(status) => ExitCode::from(status),
-        Err(error) if error.kind() == ErrorKind::OutOfMemory => {
-            let _ = eprintln!(rt; "want of memory");
-            ExitCode::from(4)
-        }
-        Err(_) => ExitCode::from(2),
-    }
+    let mut faults = Device::new(rt.stderr());
+    ExitCode::from(exit_status(rt.alloc(), run(&rt), &mut faults))
 }
 
 /// The status of the program, or why its words or its output could not be had.

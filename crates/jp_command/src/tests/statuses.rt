@@ -3,9 +3,9 @@
 use super::devices::{Broken, Drip, Narrow};
 use super::rows::{assert_ended, ended, words};
 use super::table::names::{IN_QUOTES, NAMES};
-use crate::{Device, run_line};
+use crate::{Device, exit_status, run_line};
 use std::alloc::Global;
-use std::io::Read;
+use std::io::{Error, ErrorKind, Read, Result as IoResult};
 use std::process::Abort;
 use std::test::Fail;
 
@@ -283,6 +283,31 @@ fn keeps_its_status_where_its_line_cannot_be_written(rt: HostRuntime) -> Result<
             &mut Device::new(Narrow::new(alloc, 7, true)),
         );
         assert_eq!(rt; ended, status);
+    }
+    Ok(())
+}
+
+/// The status of a program whose run answered this, and what is told of it.
+fn exit_of(alloc: Global, answer: IoResult<u8>) -> (u8, Vec<u8>) {
+    let mut told = Vec::new(alloc);
+    let status = exit_status(alloc, answer, &mut Device::new(&mut told));
+    (status, told)
+}
+
+#[test]
+fn the_status_of_a_program_that_cannot_begin(rt: HostRuntime) -> Result<(), Fail> {
+    let alloc = rt.alloc();
+    for (answer, status, line) in [
+        (Ok(3), 3, ""),
+        (Err(ErrorKind::OutOfMemory), 4, "want of memory\n"),
+        (Err(ErrorKind::InvalidInput), 2, ""),
+    ] {
+        let answer = match answer {
+            Ok(status) => Ok(status),
+            Err(kind) => Err(Error::from(kind)),
+        };
+        let (ended, told) = exit_of(alloc, answer);
+        assert_eq!(rt; (ended, told.as_slice()), (status, line.as_bytes()));
     }
     Ok(())
 }
