@@ -5,7 +5,7 @@ ghost use Rattle.jp_document.specs.Value.{list_length};
 ghost use Rattle.jp_flat.specs.Flat.{is_flat, meaning, shown};
 ghost use Rattle.jp_lent.specs.Lending.{bare, seen_value};
 
-use crate::item::Item;
+use crate::item::{Item, Span};
 use crate::parts::{first_named, item_at, member_at, members, name_order, text_at};
 use crate::tables::Tables;
 use jp_document::Step;
@@ -26,6 +26,7 @@ pub struct FlatValue<'d, 't> {
 impl<'d, 't> FlatValue<'d, 't> {
     ghost use Rattle.jp_flat.specs.FlatValue.{flat_entry, lent_flat};
     ghost use Rattle.jp_document.specs.Location.{child_entry, entries, named, nth};
+    ghost use Rattle.jp_flat.specs.declared.item.Item.TheVariants.{Members};
 
     /// The value of an item.
     pub(crate) fn of(tables: &'d Tables<'t>, item: Item) -> FlatValue<'d, 't>
@@ -118,31 +119,41 @@ impl<'d, 't> FlatValue<'d, 't> {
 
     /// The member of this name of an object, with its step; None where there is none (RFC 9535
     /// section 2.3.1).
+    #[inline(always)]
     pub fn member(self, name: &str) -> Option<(Step<'d>, FlatValue<'d, 't>)>
         ensures { option_map flat_entry result
             ≡ child_entry (lent_flat self.entry) (named name.now) }
     {
         match self.item {
-            Item::Members(span) => {
-                let tables = self.tables;
-                let members = members(tables, span)?;
-                if members.len() <= FEW {
-                    return match first_named(tables, members, name) {
-                        Some(index) => self.child(index),
-                        None => None,
-                    };
-                }
-                match members.binary_search_by(|member| name_order(tables, member, name)) {
-                    Ok(index) => self.child(index),
-                    Err(_) => None,
-                }
-            }
+            Item::Members(span) => self.member_in(span, name),
             Item::Null
             | Item::Bool(_)
             | Item::Above(_)
             | Item::Below(_)
             | Item::Text(_)
             | Item::List(_) => None,
+        }
+    }
+
+    /// The same of an object of these members. It stands apart, so that other values are told from objects
+    /// before anything is called.
+    #[inline(never)]
+    fn member_in(self, span: Span, name: &str) -> Option<(Step<'d>, FlatValue<'d, 't>)>
+        requires { self.item ≡ Members span }
+        ensures { option_map flat_entry result
+            ≡ child_entry (lent_flat self.entry) (named name.now) }
+    {
+        let tables = self.tables;
+        let members = members(tables, span)?;
+        if members.len() <= FEW {
+            return match first_named(tables, members, name) {
+                Some(index) => self.child(index),
+                None => None,
+            };
+        }
+        match members.binary_search_by(|member| name_order(tables, member, name)) {
+            Ok(index) => self.child(index),
+            Err(_) => None,
         }
     }
 }

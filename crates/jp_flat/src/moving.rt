@@ -1,6 +1,6 @@
 //! Parts that move from one table to another.
 
-ghost use Rattle.std.specs.Prelude.{◌≡◌, ◌≤◌, ◌++◌, OnSome, drop, length, take};
+ghost use Rattle.std.specs.Prelude.{◌≡◌, ◌≤◌, ◌<◌, ◌+◌, ◌++◌, OnSome, drop, length, take};
 
 use std::mem::swap;
 
@@ -14,11 +14,29 @@ pub(crate) fn move_parts<T: Copy>(
     ensures moved { OnSome result (table.new.items ≡ table.old.items ++ drop first parts.old.items) }
     ensures left { OnSome result (parts.new.items ≡ take first parts.old.items) }
 {
+    if parts.len() - first < 2 {
+        return move_part(table, parts, first);
+    }
     if first == 0 && table.is_empty() {
         swap(table, parts);
         return Some(());
     }
     table.extend_from_slice(&parts[first..]).ok()?;
     parts.truncate(first);
+    Some(())
+}
+
+/// The same of one part or none, which is what most lists have that stand deep.
+#[inline(always)]
+fn move_part<T: Copy>(table: &mut Vec<T>, parts: &mut Vec<T>, first: usize) -> Option<()>
+    requires { (first ≤ length parts.old.items) × (length parts.old.items < first + 2) }
+    ensures moved { OnSome result (table.new.items ≡ table.old.items ++ drop first parts.old.items) }
+    ensures left { OnSome result (parts.new.items ≡ take first parts.old.items) }
+{
+    if first < parts.len() {
+        let part = parts[first];
+        table.push(part).ok()?;
+        parts.truncate(first);
+    }
     Some(())
 }
