@@ -1,7 +1,6 @@
 -- The files of lemmas. `pub` are those that proofs of other crates may name.
 pub mod Ahead
 pub mod Blocks
-pub mod ByName
 pub mod Digits
 pub mod Documents
 pub mod FoundInside
@@ -13,6 +12,7 @@ pub mod Leaves
 pub mod Lexed
 pub mod Lookups
 pub mod Loops
+pub mod Moved
 pub mod Names
 pub mod Owned
 pub mod Planted

@@ -125,7 +125,7 @@ all_at q [] i e all within = absurd (omega (arith, within))
 all_at q (p ∷ ps) zero e all within = and-left _ _ all
 all_at q (p ∷ ps) (suc i) e all within = all_at q ps i e (and-right _ _ all) (omega (arith, within))
 
-own_reverse : (o : Ordering) → o ≡ ordering_reverse o → o ≡ Equal
+pub own_reverse : (o : Ordering) → o ≡ ordering_reverse o → o ≡ Equal
 own_reverse Less is = absurd (cc)
 own_reverse Equal is = refl
 own_reverse Greater is = absurd (cc)

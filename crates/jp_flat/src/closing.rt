@@ -9,12 +9,9 @@ ghost use Rattle.jp_flat.specs.Private.Reading.{IsTheListOf, IsObjectOf, put_all
 
 use crate::item::{Item, Named};
 use crate::moving::move_parts;
-use crate::sorting::{put_by_name, put_each};
+use crate::sorting::{put_each, sort_many};
 use crate::spans::span_of;
 use crate::tables::Tables;
-
-/// The most members that are put in order one by one.
-const MAX_MOVED: usize = 64;
 
 /// The list of the items from the base on, which move to the tables.
 pub(crate) fn close_list(
@@ -48,7 +45,7 @@ pub(crate) fn list_from(tables: &Tables<'_>, first: usize) -> Option<Item>
 
 /// The object of the members from the base on, which move to the tables in the order of their
 /// names, each instead of an earlier one of its name. `rises` says that they came in it; else
-/// they are sorted, few of them in `sorted`, which is free before and after.
+/// they are put in order in `sorted`, which is free before and after.
 pub(crate) fn close_object(
     tables: &mut Tables<'_>,
     members: &mut Vec<Named>,
@@ -69,11 +66,7 @@ pub(crate) fn close_object(
         let object = object_of(tables, members, base)?;
         return Some(object);
     }
-    if members.len() - base > MAX_MOVED {
-        put_by_name(tables, members, base)?;
-        let object = object_of(tables, members, base)?;
-        return Some(object);
-    }
+    sort_many(tables, members, base)?;
     put_each(tables, tail(members, base), sorted)?;
     members.truncate(base);
     let object = object_of(tables, sorted, 0)?;

@@ -1,36 +1,97 @@
-//! Names that are sorted by their bytes.
+//! Members with keys, by which they are sorted: what tells their names apart, as numbers.
 
-ghost use Rattle.std.specs.Prelude.{◌≡◌, ◌<◌, get_or, take, true};
-ghost use Rattle.jp_flat.specs.Private.Fronts.{are_bytes, front_of};
+ghost use Rattle.std.specs.Prelude.{◌≡◌, ◌<◌, ◌≤◌, IfSome, drop, get_or, length};
+ghost use Rattle.jp_flat.specs.Flat.{shown};
+ghost use Rattle.jp_flat.specs.Private.Fronts.{front_of};
+ghost use Rattle.jp_flat.specs.Private.Keys.{AreKeyed, keyed_cmp};
+ghost use Rattle.jp_flat.specs.Private.Parts.{name_in};
 
+use crate::item::Named;
+use crate::parts::{bytes_order, name_at};
+use crate::tables::Tables;
+use std::alloc::Global;
 use std::cmp::Ordering;
 
-/// A name with its first eight bytes as one number, by which most names differ.
-#[derive(Clone, Copy, Drop)]
-pub(crate) struct Key<'d> {
-    front: u64,
-    name: &'d [u8],
-    ghost front_is: { front ≡ front_of 8 name.now },
-    ghost bytes: { are_bytes (take 8 name.now) ≡ true },
+/// A member, and eight bytes of its name as one number, by which most names differ.
+#[derive(Clone, Copy)]
+pub(crate) struct Keyed {
+    key: u64,
+    pub(crate) member: Named,
 }
 
-impl<'d> Key<'d> {
-    ghost use Rattle.jp_flat.specs.Private.Keys.{key_name};
+/// The members with their keys, which are taken behind so many bytes of the names.
+pub(crate) fn with_keys(
+    alloc: Global,
+    tables: &Tables<'_>,
+    members: &[Named],
+    shared: usize,
+) -> Option<Vec<Keyed>>
+    ensures { IfSome result (λ v. AreKeyed (shown tables.now) shared members.now v.items) }
+{
+    let mut found = Vec::with_capacity(alloc, members.len()).ok()?;
+    for member in members {
+        let key = key_behind(name_at(tables, member), shared);
+        found
+            .push(Keyed {
+                key,
+                member: *member,
+            })
+            .ok()?;
+    }
+    Some(found)
+}
 
-    /// The key of a name.
-    pub(crate) fn of(name: &'d [u8]) -> Key<'d>
-        ensures { key_name result ≡ name.now }
-    {
-        let front = front_of(name);
-        Key { front, name }
+/// The order of two members by their keys, and where these are the same by their names.
+pub(crate) fn order(tables: &Tables<'_>, left: &Keyed, right: &Keyed) -> Ordering
+    ensures { result ≡ keyed_cmp (shown tables.now) left.now right.now }
+{
+    if left.key != right.key {
+        return left.key.cmp(&right.key);
+    }
+    bytes_order(tables, &left.member, name_at(tables, &right.member))
+}
+
+/// How many bytes the names of all members begin with alike.
+pub(crate) fn shared_length(tables: &Tables<'_>, members: &[Named]) -> usize {
+    let Some(first) = members.first() else {
+        return 0;
+    };
+    let mut shared = name_at(tables, first);
+    for member in members {
+        let count = alike(shared, name_at(tables, member));
+        shared = &shared[..count];
+    }
+    shared.len()
+}
+
+/// How many bytes two names begin with alike.
+fn alike(left: &[u8], right: &[u8]) -> usize
+    ensures { result ≤ length left.now }
+{
+    let both = left.len().min(right.len());
+    for index in 0..both {
+        if left[index] != right[index] {
+            return index;
+        }
+    }
+    both
+}
+
+/// The key of a name: the bytes behind so many.
+fn key_behind(name: &[u8], shared: usize) -> u64
+    ensures { result ≡ front_of 8 (drop shared name.now) }
+{
+    if shared < name.len() {
+        front_of(&name[shared..])
+    } else {
+        0
     }
 }
 
 /// The first eight bytes as a number, with zeros behind a shorter name.
 #[inline(always)]
 fn front_of(name: &[u8]) -> u64
-    ensures front { result ≡ front_of 8 name.now }
-    ensures bytes { are_bytes (take 8 name.now) ≡ true }
+    ensures { result ≡ front_of 8 name.now }
 {
     if name.len() < 8 {
         front_of_short(name)
@@ -39,20 +100,18 @@ fn front_of(name: &[u8]) -> u64
     }
 }
 
-/// `front_of` of names that may be shorter, out of the way of the others: where eight bytes are
-/// known to stand there, none of them is looked for.
+/// The same for names that may be shorter, out of the way of the others: where eight bytes are known
+/// to stand there, none of them is looked for.
 #[inline(never)]
 fn front_of_short(name: &[u8]) -> u64
-    ensures front { result ≡ front_of 8 name.now }
-    ensures bytes { are_bytes (take 8 name.now) ≡ true }
+    ensures { result ≡ front_of 8 name.now }
 {
     front_by_bytes(name)
 }
 
 #[inline(always)]
 fn front_by_bytes(name: &[u8]) -> u64
-    ensures front { result ≡ front_of 8 name.now }
-    ensures bytes { are_bytes (take 8 name.now) ≡ true }
+    ensures { result ≡ front_of 8 name.now }
 {
     let high = byte_at(name, 0) * 0x100_0000
         + byte_at(name, 1) * 0x1_0000
@@ -73,70 +132,5 @@ fn byte_at(name: &[u8], at: usize) -> u64
         u64::from(name[at])
     } else {
         0
-    }
-}
-
-impl<'d> PartialEq for Key<'d> {
-    ghost use Rattle.std.specs.Prelude.{nat_eq};
-    ghost use Rattle.std.specs.Cmp.{on_per, partial_equiv_from_equiv};
-    ghost use Rattle.std.specs.Cmp.Lexicographic.{nat_list_eq_equiv, pointwise};
-    ghost use Rattle.jp_flat.specs.Private.Keys.{key_name};
-
-    ghost eq = { λ a b. pointwise nat_eq (key_name a) (key_name b) };
-
-    ghost laws = { on_per key_name (partial_equiv_from_equiv nat_list_eq_equiv) };
-
-    fn eq(&self, other: &Key<'d>) -> bool {
-        self.name == other.name
-    }
-}
-
-impl<'d> Eq for Key<'d> {
-    ghost use Rattle.std.specs.Cmp.{on_equiv};
-    ghost use Rattle.std.specs.Cmp.Lexicographic.{nat_list_eq_equiv};
-    ghost use Rattle.jp_flat.specs.Private.Keys.{key_name};
-
-    ghost laws = { on_equiv key_name nat_list_eq_equiv };
-}
-
-impl<'d> PartialOrd for Key<'d> {
-    ghost use Rattle.std.specs.Prelude.{Some};
-    ghost use Rattle.std.specs.Cmp.{on_po};
-    ghost use Rattle.std.specs.Cmp.Lexicographic.{slice_cmp, texts_po};
-    ghost use Rattle.std.specs.Ordering.{nat_cmp};
-    ghost use Rattle.jp_flat.specs.Private.Keys.{key_name};
-
-    ghost partial_cmp = { λ a b. Some (slice_cmp nat_cmp (key_name a) (key_name b)) };
-
-    ghost laws = { on_po key_name texts_po };
-
-    fn partial_cmp(&self, other: &Key<'d>) -> Option<Ordering> {
-        Some(self.cmp(other))
-    }
-}
-
-impl<'d> Ord for Key<'d> {
-    ghost use Rattle.std.specs.Prelude.{refl};
-    ghost use Rattle.std.specs.Cmp.{on_total};
-    ghost use Rattle.std.specs.Cmp.Lexicographic.{nat_list_cmp_total, slice_cmp, texts_ties};
-    ghost use Rattle.std.specs.Ordering.{nat_cmp};
-    ghost use Rattle.jp_flat.specs.Private.Keys.{key_name};
-
-    ghost cmp = { λ a b. slice_cmp nat_cmp (key_name a) (key_name b) };
-
-    ghost total = { on_total key_name nat_list_cmp_total };
-
-    ghost matches_partial_cmp = { λ a b. refl };
-
-    ghost matches_eq = { λ a b. texts_ties (key_name a) (key_name b) };
-
-    fn cmp(&self, other: &Key<'d>) -> Ordering {
-        if self.front < other.front {
-            Ordering::Less
-        } else if self.front > other.front {
-            Ordering::Greater
-        } else {
-            self.name.cmp(other.name)
-        }
     }
 }

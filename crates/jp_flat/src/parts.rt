@@ -79,9 +79,17 @@ pub(crate) fn name_order(tables: &Tables<'_>, member: &Named, name: &str) -> Ord
 pub(crate) fn bytes_order(tables: &Tables<'_>, member: &Named, name: &[u8]) -> Ordering
     ensures { result ≡ slice_cmp nat_cmp (name_in (shown tables.now) member.now) name.now }
 {
+    name_at(tables, member).cmp(name)
+}
+
+/// The bytes of a member's name.
+#[inline(always)]
+pub(crate) fn name_at<'d>(tables: &'d Tables<'_>, member: &Named) -> &'d [u8]
+    ensures { result.now ≡ name_in (shown tables.entry.now) member.now }
+{
     match bytes_at(tables, member.name) {
-        Some(bytes) => bytes.cmp(name),
-        None => b"".as_slice().cmp(name),
+        Some(bytes) => bytes,
+        None => b"",
     }
 }
 

@@ -1,24 +1,27 @@
 //! Members put in the order of their names.
 
-ghost use Rattle.std.specs.Prelude.{◌≡◌, ◌≤◌, ◌++◌, IfSome, OnSome, drop, length, map, take};
+ghost use Rattle.std.specs.Prelude.{◌≡◌, ◌≤◌, ◌++◌, IfSome, OnSome, drop, length, take};
 ghost use Rattle.std.specs.Cmp.Lexicographic.{slice_cmp};
 ghost use Rattle.std.specs.List.{insert};
 ghost use Rattle.std.specs.List.Sorted.{IsBinarySearchResult, IsSearchInRange};
 ghost use Rattle.std.specs.Ordering.{nat_cmp};
 ghost use Rattle.jp_flat.specs.Flat.{shown};
 ghost use Rattle.jp_flat.specs.Private.Parts.{name_in};
-ghost use Rattle.jp_flat.specs.Private.Sorting.{Puts, PutsAll, PutsByName};
+ghost use Rattle.jp_flat.specs.Private.Keys.{members_in};
+ghost use Rattle.jp_flat.specs.Private.Sorting.{IsSameByName, Puts, PutsAll};
 
 use crate::item::Named;
-use crate::key::Key;
+use crate::key::{Keyed, order, shared_length, with_keys};
 use crate::parts::{bytes_at, bytes_order};
 use crate::tables::Tables;
 use std::alloc::Global;
 use std::cmp::Ordering;
-use std::collections::BTreeMap;
+
+/// The most members that are put in order one by one.
+const MAX_MOVED: usize = 64;
 
 /// Fills `found` with the members in the order of their names, each instead of an earlier one
-/// of its name: for few members.
+/// of its name. Members in that order all go in last.
 pub(crate) fn put_each(tables: &Tables<'_>, members: &[Named], found: &mut Vec<Named>) -> Option<()>
     ensures { OnSome result (PutsAll (shown tables.now) members.now found.new.items) }
 {
@@ -81,43 +84,39 @@ fn search(tables: &Tables<'_>, members: &[Named], name: &[u8]) -> Result<usize, 
     Err(low)
 }
 
-/// Puts the members from the base on in the order of their names, each instead of an earlier
-/// one of its name: for many members.
-pub(crate) fn put_by_name(tables: &Tables<'_>, members: &mut Vec<Named>, base: usize) -> Option<()>
+/// Sorts the members from the base on by their names, those of one name as they came. Few of them stay
+/// as they are: `put_each` takes less time than that.
+pub(crate) fn sort_many(tables: &Tables<'_>, members: &mut Vec<Named>, base: usize) -> Option<()>
     requires { base ≤ length members.old.items }
     ensures front { OnSome result (take base members.new.items ≡ take base members.old.items) }
-    ensures put { OnSome result (PutsAll (shown tables.now) (drop base members.old.items)
+    ensures same { OnSome result (IsSameByName (shown tables.now) (drop base members.old.items)
         (drop base members.new.items)) }
     ensures long { OnSome result (base ≤ length members.new.items) }
 {
-    let named = by_name(*members.allocator(), tables, &members[base..])?;
+    if members.len() - base <= MAX_MOVED {
+        return Some(());
+    }
+    let sorted = sorted(*members.allocator(), tables, &members[base..])?;
     members.truncate(base);
-    list(named, members)?;
+    list(&sorted, members)?;
     Some(())
 }
 
-fn by_name<'d>(
-    alloc: Global,
-    tables: &'d Tables<'_>,
-    members: &[Named],
-) -> Option<BTreeMap<Key<'d>, Named>>
-    ensures { IfSome result (λ m. PutsByName (shown tables.entry.now) members.now m.entries) }
+/// The members in the order of their names, those of one name as they came.
+fn sorted(alloc: Global, tables: &Tables<'_>, members: &[Named]) -> Option<Vec<Keyed>>
+    ensures { IfSome result (λ v. IsSameByName (shown tables.now) members.now (members_in v.items)) }
 {
-    let mut found = BTreeMap::new(alloc);
-    for member in members {
-        let name = bytes_at(tables, member.name)?;
-        found.insert(Key::of(name), *member).ok()?;
-    }
+    let mut found = with_keys(alloc, tables, members, shared_length(tables, members))?;
+    found.sort_by(|a, b| order(tables, a, b)).ok()?;
     Some(found)
 }
 
-/// Appends the members of a map.
-fn list(named: BTreeMap<Key<'_>, Named>, found: &mut Vec<Named>) -> Option<()>
-    ensures { OnSome result
-        (found.new.items ≡ found.old.items ++ map (λ e. e.1) named.entry.entries) }
+/// Appends the members without their keys.
+fn list(sorted: &[Keyed], found: &mut Vec<Named>) -> Option<()>
+    ensures { OnSome result (found.new.items ≡ found.old.items ++ members_in sorted.now) }
 {
-    for (name, member) in named {
-        found.push(member).ok()?;
+    for keyed in sorted {
+        found.push(keyed.member).ok()?;
     }
     Some(())
 }

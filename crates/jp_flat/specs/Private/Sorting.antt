@@ -1,16 +1,17 @@
 -- Members put in the order of their names, each instead of an earlier one of its name.
-use Rattle.std.specs.Prelude.{◌≡◌, ℕ, List, [], Option, Some, map, true}
+use Rattle.std.specs.Prelude.{◌≡◌, ℕ, List, [], Option, Some, true}
 use Rattle.std.specs.BTreeMap.{insert_entry}
 use Rattle.std.specs.Cmp.Lexicographic.{slice_cmp}
+use Rattle.std.specs.List.{filter}
+use Rattle.std.specs.List.Sorted.{IsPermutation}
 use Rattle.std.specs.Map.{keys_of}
 use Rattle.std.specs.Ordering.{nat_cmp}
 use Rattle.jp_document.specs.Value.{Value, names_rise}
 use Rattle.jp_flat.specs.Flat.{Shown, all_of, member_with}
 use Rattle.jp_flat.specs.Private.Reading.{put_all}
-use Rattle.jp_flat.specs.Private.Keys.{key_name}
+use Rattle.jp_flat.specs.Private.Parts.{is_named}
 use Rattle.jp_flat.specs.declared.item.Item.{Item}
 use Rattle.jp_flat.specs.declared.item.Named.{Named}
-use Rattle.jp_flat.specs.declared.key.Key.{Key}
 
 -- whatever the items are, the sorted members stand for all that the members stand for, put one
 -- after another
@@ -28,14 +29,8 @@ Puts t member before after =
     → member_with f t member ≡ Some m
     → all_of (member_with f t) after ≡ Some (insert_entry (slice_cmp nat_cmp) ms m.0 m.1)
 
--- the entries are these members under their names
-pub record HoldsByName (f : Item → Option Value) (t : Shown) (ms : List (List ℕ × Value))
-    (entries : List (Key × Named)) : Type 0 where
-  pub names : map (λ e. key_name e.0) entries ≡ keys_of ms
-  pub members : all_of (member_with f t) (map (λ e. e.1) entries) ≡ Some ms
-
--- the same of members under their names
-abbrev pub PutsByName : Shown → List Named → List (Key × Named) → Type 0
-PutsByName t members entries =
-    (f : Item → Option Value) (ms : List (List ℕ × Value))
-    → all_of (member_with f t) members ≡ Some ms → HoldsByName f t (put_all [] ms) entries
+-- the same members in another order, those of each name in theirs
+pub record IsSameByName (t : Shown) (before after : List Named) : Type 0 where
+  pub moved : IsPermutation before after
+  pub named : (name : List ℕ)
+      → filter (is_named t name) after ≡ filter (is_named t name) before

@@ -1,9 +1,9 @@
-use Rattle.std.proofs.Common.{◌<◌, ℕ, arith, get_or, refl}
-use Rattle.jp_flat.proofs.Fronts.{bytes_by, front_by}
+use Rattle.std.proofs.Common.{arith}
+use Rattle.jp_flat.proofs.Fronts.{front_by}
 use Rattle.jp_flat.proofs.key.front_by_bytes.Goals as goal
 
-pub returns-clause-front : goal.returns-clause-front
-returns-clause-front c =
+pub returns : goal.returns
+returns c =
     let xs = c.args.name.now in
     let a = front_by 7 0 xs in
     let b = front_by 6 1 xs in
@@ -32,11 +32,3 @@ returns-clause-front c =
       c.byte_at-7.ensures,
       c.byte_at-8.ensures,
     )
-
-pub returns-clause-bytes : goal.returns-clause-bytes
-returns-clause-bytes c =
-    let xs = c.args.name.now in
-    let small : (i : ℕ) → get_or xs i 0 < 256 = λ i. (c.type_inv.name i).fits in
-    bytes_by 7 0 xs (small 0) (bytes_by 6 1 xs (small 1) (bytes_by 5 2 xs (small 2)
-    (bytes_by 4 3 xs (small 3) (bytes_by 3 4 xs (small 4) (bytes_by 2 5 xs (small 5)
-    (bytes_by 1 6 xs (small 6) (bytes_by 0 7 xs (small 7) refl)))))))

@@ -1,7 +1,7 @@
-use Rattle.std.proofs.Common.{◌≡◌, ◌++◌, map}
+use Rattle.std.proofs.Common.{◌≡◌, ◌++◌, take}
+use Rattle.jp_flat.specs.Private.Keys.{members_in}
 use Rattle.jp_flat.proofs.sorting.list.Given as goal
 
-abbrev pub invariant-loop-name : goal.invariant-loop-name
-invariant-loop-name l =
-    l.found.items ++ map (λ e. e.1) l.name-iterator
-    ≡ l.fn.found.items ++ map (λ e. e.1) l.fn.named.entries
+abbrev pub invariant-loop-keyed : goal.invariant-loop-keyed
+invariant-loop-keyed l =
+    l.found.items ≡ l.initial.found.items ++ members_in (take l.keyed-index l.sorted)
