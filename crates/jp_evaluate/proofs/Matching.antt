@@ -1,10 +1,7 @@
 -- What a matcher answers is what the tests of patterns tell.
-use Rattle.std.proofs.Common.{◌≡◌, ◌↔◌, ℕ, List, Bool, true, false, IsTrue, Option, Some, None}
+use Rattle.std.proofs.Common.{◌≡◌, ◌↔◌, ℕ, List, Bool, true, false, IsTrue, Some, None}
 use Rattle.std.proofs.Common.{refl, ap, sym, ◌∙◌}
 use Rattle.std.specs.Str.{chars}
-use Rattle.jp_tree.specs.declared.function.Function.{Function}
-use Rattle.jp_tree.specs.declared.function.Function.TheVariants.{Count, Distinct, Length, Match}
-use Rattle.jp_tree.specs.declared.function.Function.TheVariants.{Search, ValueOf}
 use Rattle.jp_document.specs.Value.{text}
 use Rattle.jp_iregexp.proofs.Membership.{parts_are_tested, words_are_tested}
 use Rattle.jp_iregexp.specs.Language.{Language}
@@ -14,7 +11,9 @@ use Rattle.jp_iregexp.specs.Part.{HasPart}
 use Rattle.jp_iregexp.specs.PatternOf.{pattern_of}
 use Rattle.jp_iregexp.specs.Tree.{Tree}
 use Rattle.jp_reading.specs.Texts.{Text}
-use Rattle.jp_evaluate.specs.Functions.{logical_answer}
+use Rattle.jp_evaluate.specs.declared.evaluating.Extent.{Extent}
+use Rattle.jp_evaluate.specs.declared.evaluating.Extent.TheVariants.{Part, Whole}
+use Rattle.jp_evaluate.specs.Private.Meanings.{matched}
 
 same_by_meaning : {P : Type 0} (a b : Bool) → IsTrue a ↔ P → IsTrue b ↔ P → a ≡ b
 same_by_meaning true true by_a by_b = refl
@@ -37,13 +36,8 @@ part_answer answer a string pattern found exact =
     ∙ sym (ap (is_passing (λ x. has_word x string)) found)
 
 -- a text that spells no pattern has no match
-pub no_answer : (f : Option Function) (s p : List ℕ) → pattern_of (chars p) ≡ None
-    → false ≡ logical_answer f (Some (text s)) (Some (text p))
+pub no_answer : (e : Extent) (s p : List ℕ) → pattern_of (chars p) ≡ None
+    → false ≡ matched e (Some (text s)) (Some (text p))
 unfolding is_match has_match
-no_answer (Some Match) s p none = sym (ap (is_passing (λ x. is_word x (chars s))) none)
-no_answer (Some Search) s p none = sym (ap (is_passing (λ x. has_word x (chars s))) none)
-no_answer (Some Length) s p none = refl
-no_answer (Some Count) s p none = refl
-no_answer (Some ValueOf) s p none = refl
-no_answer (Some Distinct) s p none = refl
-no_answer None s p none = refl
+no_answer Whole s p none = sym (ap (is_passing (λ x. is_word x (chars s))) none)
+no_answer Part s p none = sym (ap (is_passing (λ x. has_word x (chars s))) none)

@@ -1,8 +1,10 @@
 -- What nodelists hold.
 pub mod Along
 pub mod Anywhere
+pub mod Beyond
 pub mod Elements
 pub mod Joined
+pub mod Meanings
 pub mod Only
 pub mod Repeats
 pub mod Sets

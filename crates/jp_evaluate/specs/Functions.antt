@@ -52,23 +52,36 @@ abbrev pub is_found : Option Value → Option Value → Bool
 is_found (Some (text s)) (Some (text p)) = has_match (chars s) (chars p)
 is_found _ _ = false
 
--- what a function of one argument answers: `length` for its value v, `count` and `value` for its
--- nodes ns, which an argument that is no query does not have; other functions answer no value
-abbrev pub value_answer : Option Function → Option Value → Option (List Node) → Option Value
-value_answer (Some Length) v ns = length_of v
-value_answer (Some Count) v ns = option_and_then count_of ns
-value_answer (Some ValueOf) v ns = option_and_then only_value ns
+-- what a function makes of its arguments (section 2.4.1): a value of a value, a value of nodes,
+-- nodes of nodes, or true or false of two values
+pub data Meaning : Type 0 where
+  value_of_value : (Option Value → Option Value) → Meaning
+  value_of_nodes : (List Node → Option Value) → Meaning
+  nodes_of_nodes : (List Node → List Node) → Meaning
+  truth_of_values : (Option Value → Option Value → Bool) → Meaning
+
+-- the meaning of each function of the standard (sections 2.4.4 to 2.4.8), and of `distinct`
+abbrev pub meaning : Function → Meaning
+meaning Length = value_of_value length_of
+meaning Count = value_of_nodes count_of
+meaning Match = truth_of_values is_matched
+meaning Search = truth_of_values is_found
+meaning ValueOf = value_of_nodes only_value
+meaning Distinct = nodes_of_nodes without_repeats
+
+-- what a function of one argument answers as a value: for its value v, or for its nodes ns, which an
+-- argument that is no query does not have; other functions answer no value
+abbrev pub value_answer : Option Meaning → Option Value → Option (List Node) → Option Value
+value_answer (Some (value_of_value f)) v ns = f v
+value_answer (Some (value_of_nodes f)) v ns = option_and_then f ns
 value_answer _ v ns = None
 
--- what a function of one argument answers as nodes: `distinct` for the argument's nodes ns; other
--- functions answer no nodes
-abbrev pub nodes_answer : Option Function → Option (List Node) → Option (List Node)
-nodes_answer (Some Distinct) ns = option_map without_repeats ns
+-- what it answers as nodes, for the argument's nodes ns; other functions answer no nodes
+abbrev pub nodes_answer : Option Meaning → Option (List Node) → Option (List Node)
+nodes_answer (Some (nodes_of_nodes f)) ns = option_map f ns
 nodes_answer _ ns = None
 
--- whether `match` or `search` is true of the values of its two arguments; other functions are false
--- here
-abbrev pub logical_answer : Option Function → Option Value → Option Value → Bool
-logical_answer (Some Match) v p = is_matched v p
-logical_answer (Some Search) v p = is_found v p
-logical_answer _ v p = false
+-- whether a function of two arguments is true of their values; other functions are false here
+abbrev pub logical_answer : Option Meaning → Option Value → Option Value → Bool
+logical_answer (Some (truth_of_values f)) v w = f v w
+logical_answer _ v w = false

@@ -1,6 +1,6 @@
 -- The nodelist of a query (RFC 9535 section 2.1.2).
-use Rattle.std.specs.Prelude.{Bool, true, false, not, ◌&&◌, ◌||◌, if◌then◌else◌, List}
-use Rattle.std.specs.Prelude.{[], ◌∷◌, ◌++◌, filter as those_of, Option, Some, None}
+use Rattle.std.specs.Prelude.{ℕ, Bool, true, false, not, ◌&&◌, ◌||◌, if◌then◌else◌, List}
+use Rattle.std.specs.Prelude.{[], ◌∷◌, ◌++◌, filter as those_of, Option, Some, None, option_map}
 use Rattle.std.specs.List.{flat_map}
 use Rattle.std.specs.Str.{encode_utf8_all}
 use Rattle.jp_document.specs.Node.{Node, children, root_of}
@@ -20,7 +20,8 @@ use Rattle.jp_check.specs.declared.profile.Profile.TheVariants.{Extended}
 use Rattle.jp_select.specs.Subtree.{subtree_of}
 use Rattle.jp_select.specs.Comparison.{compared}
 use Rattle.jp_select.specs.Selectors.{chosen}
-use Rattle.jp_evaluate.specs.Functions.{logical_answer, nodes_answer, only_value, value_answer}
+use Rattle.jp_evaluate.specs.Functions.{Meaning, logical_answer, meaning, nodes_answer, only_value}
+use Rattle.jp_evaluate.specs.Functions.{value_answer}
 
 -- the nodes at which a segment applies its selectors: a child segment at the nodes themselves
 -- (section 2.5.1.2), a descendant segment at each node and its descendants (section 2.5.2.2)
@@ -57,6 +58,12 @@ literal_value (text cs) = Some (text_value (encode_utf8_all cs))
 literal_value true_literal = Some (boolean true)
 literal_value false_literal = Some (boolean false)
 literal_value null_literal = Some null
+
+-- the meaning of the function of that name, given as scalar values. The functions of `Extended` are
+-- all that there are. Which of them a query may call depends on its profile, and is said by what is
+-- accepted in it; here each has its meaning
+abbrev pub meaning_named : List ℕ → Option Meaning
+meaning_named name = option_map meaning (function_named Extended name)
 
 -- d is the document's value throughout, c the current node
 abbrev mutual
@@ -114,28 +121,25 @@ abbrev mutual
   operand_value (node_value q) d c = single_node_value q (nodelist_at q d c)
   operand_value (call_value f) d c = call_answer f d c
 
-  -- The functions of `Extended` are all that there are. Which of them a query may call depends on
-  -- its profile, and is said by what is accepted in it; here each has its meaning.
-
   -- the value that a function answers (section 2.4); a call that is not well-typed as a value has
   -- none
   pub call_answer : CallTree → Value → Node → Option Value
   call_answer (call cs (argument_then x no_arguments)) d c =
-      value_answer (function_named Extended cs) (argument_value x d c) (argument_nodes x d c)
+      value_answer (meaning_named cs) (argument_value x d c) (argument_nodes x d c)
   call_answer (call cs _) d c = None
 
   -- whether a function answers true (section 2.4); a call that is not well-typed as a test is false
   -- here, and so is one of `distinct`, which answers nodes: as a test it is true where there are some
   pub call_holds : CallTree → Value → Node → Bool
   call_holds (call cs (argument_then x (argument_then y no_arguments))) d c =
-      logical_answer (function_named Extended cs) (argument_value x d c) (argument_value y d c)
+      logical_answer (meaning_named cs) (argument_value x d c) (argument_value y d c)
   call_holds (call cs _) d c = false
 
   -- the nodes that a function answers (section 2.4.1); a call that is not well-typed as nodes has
   -- none
   pub call_nodes : CallTree → Value → Node → Option (List Node)
   call_nodes (call cs (argument_then x no_arguments)) d c =
-      nodes_answer (function_named Extended cs) (argument_nodes x d c)
+      nodes_answer (meaning_named cs) (argument_nodes x d c)
   call_nodes (call cs _) d c = None
 
   -- the value that an argument stands for (section 2.4.3)

@@ -2,6 +2,7 @@
 -- between two calls. Beside `Rest`, the contracts of private functions alone cite it.
 pub mod Asked
 pub mod Calls
+pub mod Meanings
 pub mod OnlyNode
 pub mod PathTrees
 pub mod ReadText

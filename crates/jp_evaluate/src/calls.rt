@@ -5,18 +5,19 @@ ghost use Rattle.jp_select.specs.Steps.{Takes};
 ghost use Rattle.std.specs.Prelude.{◌≡◌, ◌<◌, IfOk, IfSome, length, option_map};
 ghost use Rattle.jp_tree.specs.Views.{argument_of, call_of, query_of};
 ghost use Rattle.jp_select.specs.Comparable.{comparable_of};
-ghost use Rattle.jp_evaluate.specs.Functions.{only_value};
+ghost use Rattle.jp_evaluate.specs.Functions.{meaning, only_value};
 ghost use Rattle.jp_evaluate.specs.Nodelist.{argument_value, call_answer, call_holds, nodelist_at};
 ghost use Rattle.jp_evaluate.specs.Private.Asked.{asked};
 ghost use Rattle.jp_evaluate.specs.Private.Calls.{argument_query, both_arguments, call_function};
 ghost use Rattle.jp_evaluate.specs.Private.Calls.{call_query, counted, only_argument};
+ghost use Rattle.jp_evaluate.specs.Private.Meanings.{made_of_nodes};
 ghost use Rattle.jp_evaluate.specs.Private.Selecting.{nodes_query};
 ghost use Rattle.jp_evaluate.specs.Private.Sizes.{argument_size, call_size, query_size};
 
 use crate::evaluating::{Work, logical_answer};
 use crate::evaluation_fault::EvaluationFault;
 use crate::filter::Asking;
-use crate::length::length_of;
+use crate::kind::{Kind, kind_of, value_of_value};
 use crate::operand::{literal_value, whole};
 use crate::selecting::{NodesQuery, Selecting};
 use crate::tally::{may_meet, tally};
@@ -42,22 +43,41 @@ impl<'a, 'q, V: Selectable + 'q, M: Matching> Asking<'a, 'q, V, M> {
         let Some(argument) = only_argument(call) else {
             return Ok(Comparable::Nothing);
         };
-        match function_of(call) {
-            Some(Function::Length) => {
+        let Some(function) = function_of(call) else {
+            return Ok(Comparable::Nothing);
+        };
+        match kind_of(function) {
+            Kind::ValueOfValue => {
                 let value = self.argument_value(work, argument)?;
-                Ok(length_of(value, &mut work.steps)?)
+                Ok(value_of_value(function, value, &mut work.steps)?)
             }
-            Some(Function::Count) => match argument_query(argument) {
-                Some(nodes) => Ok(whole(self.node_count(work, nodes)?)),
+            Kind::ValueOfNodes => match argument_query(argument) {
+                Some(nodes) => self.value_of_nodes(work, function, nodes),
                 None => Ok(Comparable::Nothing),
             },
-            Some(Function::ValueOf) => match argument_query(argument) {
-                Some(nodes) => Ok(Comparable::of(self.only_value(work, nodes)?)),
-                None => Ok(Comparable::Nothing),
-            },
-            Some(Function::Match | Function::Search | Function::Distinct) | None => {
-                Ok(Comparable::Nothing)
-            }
+            Kind::NodesOfNodes | Kind::TruthOfValues => Ok(Comparable::Nothing),
+        }
+    }
+
+    /// What a function makes of the nodes of a query, of those that are counted; Nothing of another
+    /// kind's function.
+    #[cycle(filter)]
+    fn value_of_nodes(
+        &self,
+        work: &mut Work,
+        function: Function,
+        nodes: NodesQuery<'q>,
+    ) -> Result<Comparable<'q, V>, EvaluationFault>
+        ensures gives { IfOk result (λ value. comparable_of V.meaning value
+            ≡ made_of_nodes (meaning function) (counted nodes.entry.distinct
+            (asked V.meaning self.now (nodelist_at (query_of nodes.entry.query.now))))) }
+        ensures takes { Takes work.old.steps work.new.steps }
+        ensures stopped { StopsSpent result work.new.steps }
+    {
+        match function {
+            Function::Count => Ok(whole(self.node_count(work, nodes)?)),
+            Function::ValueOf => Ok(Comparable::of(self.only_value(work, nodes)?)),
+            _ => Ok(Comparable::Nothing),
         }
     }
 

@@ -2,13 +2,14 @@
 
 ghost use Rattle.jp_evaluate.specs.Stopping.{StopsSpent};
 ghost use Rattle.jp_select.specs.Steps.{Takes};
-ghost use Rattle.std.specs.Prelude.{◌≡◌, ℕ, List, IfOk, Some};
+ghost use Rattle.std.specs.Prelude.{◌≡◌, ℕ, List, IfOk, Some, option_map};
 ghost use Rattle.std.specs.Str.{chars};
 ghost use Rattle.jp_iregexp.specs.PatternOf.{pattern_of};
 ghost use Rattle.jp_iregexp.specs.Tree.{tree};
 ghost use Rattle.jp_document.specs.Value.{text as text_value};
 ghost use Rattle.jp_select.specs.Comparable.{comparable_of};
-ghost use Rattle.jp_evaluate.specs.Functions.{logical_answer};
+ghost use Rattle.jp_evaluate.specs.Functions.{logical_answer, meaning};
+ghost use Rattle.jp_evaluate.specs.Private.Meanings.{matched};
 
 use crate::evaluation_fault::EvaluationFault;
 use crate::pattern::Patterns;
@@ -37,22 +38,49 @@ pub(crate) struct Work {
     pub(crate) steps: Steps,
 }
 
-/// Whether `match` or `search` is true of the values of its arguments; other functions are not.
+/// How much of a text a pattern is to match.
+#[derive(Clone, Copy)]
+enum Extent {
+    Whole,
+    Part,
+}
+
+/// Whether a function is true of the values of two arguments; one of another kind is not.
 pub(crate) fn logical_answer<'q, V: Lent + 'q, M: Matching>(
     evaluation: &Evaluation<'q, V, M>,
     work: &mut Work,
     function: Option<Function>,
+    left: Comparable<'q, V>,
+    right: Comparable<'q, V>,
+) -> Result<bool, EvaluationFault>
+    ensures gives { IfOk result (λ answer. answer ≡ logical_answer (option_map meaning function)
+        (comparable_of V.meaning left.entry) (comparable_of V.meaning right.entry)) }
+    ensures takes { Takes work.old.steps work.new.steps }
+    ensures stopped { StopsSpent result work.new.steps }
+{
+    match function {
+        Some(Function::Match) => matched(evaluation, work, Extent::Whole, left, right),
+        Some(Function::Search) => matched(evaluation, work, Extent::Part, left, right),
+        _ => Ok(false),
+    }
+}
+
+/// Whether a text matches a pattern; not so where one of both is no text.
+fn matched<'q, V: Lent + 'q, M: Matching>(
+    evaluation: &Evaluation<'q, V, M>,
+    work: &mut Work,
+    extent: Extent,
     value: Comparable<'q, V>,
     pattern: Comparable<'q, V>,
 ) -> Result<bool, EvaluationFault>
-    ensures gives { IfOk result (λ answer. answer ≡ logical_answer function
+    ensures gives { IfOk result (λ answer. answer ≡ matched extent
         (comparable_of V.meaning value.entry) (comparable_of V.meaning pattern.entry)) }
     ensures takes { Takes work.old.steps work.new.steps }
     ensures stopped { StopsSpent result work.new.steps }
 {
     match (value.seen(), pattern.seen()) {
         (Some(Seen::Text(text)), Some(Seen::Text(pattern))) => text_answer(
-            evaluation, work, function, text, pattern,
+            evaluation, work, extent, text, pattern,
         ),
         _ => Ok(false),
     }
@@ -65,12 +93,12 @@ pub(crate) fn logical_answer<'q, V: Lent + 'q, M: Matching>(
 fn text_answer<'q, V, M: Matching>(
     evaluation: &Evaluation<'q, V, M>,
     work: &mut Work,
-    function: Option<Function>,
+    extent: Extent,
     text: &str,
     pattern: &'q str,
 ) -> Result<bool, EvaluationFault>
     ensures gives { IfOk result (λ answer. answer
-        ≡ logical_answer function (Some (text_value text.now)) (Some (text_value pattern.now))) }
+        ≡ matched extent (Some (text_value text.now)) (Some (text_value pattern.now))) }
     ensures takes { Takes work.old.steps work.new.steps }
     ensures stopped { StopsSpent result work.new.steps }
 {
@@ -81,7 +109,7 @@ fn text_answer<'q, V, M: Matching>(
         return Ok(false);
     };
     let mut tests = Tests::new();
-    let answer = is_matched(evaluation, function, pattern, text, &mut tests)?;
+    let answer = is_matched(evaluation, extent, pattern, text, &mut tests)?;
     work.steps.take_many(steps_beyond(&tests, text))?;
     Ok(answer)
 }
@@ -89,22 +117,20 @@ fn text_answer<'q, V, M: Matching>(
 /// What `match` or `search` answers of a text and a pattern that was read.
 fn is_matched<V, M: Matching>(
     evaluation: &Evaluation<'_, V, M>,
-    function: Option<Function>,
+    extent: Extent,
     pattern: &CountedPattern,
     text: &str,
     tests: &mut Tests,
 ) -> Result<bool, AllocError>
     ensures { IfOk result (λ answer. (spelled : List ℕ)
         → pattern_of (chars spelled) ≡ Some (tree pattern.now.pattern)
-        → answer ≡ logical_answer function (Some (text_value text.now)) (Some (text_value spelled))) }
+        → answer ≡ matched extent (Some (text_value text.now)) (Some (text_value spelled))) }
 {
     let alloc = evaluation.alloc;
     let matcher = evaluation.matcher;
-    match function {
-        Some(Function::Match) => matcher.whole_counted(alloc, pattern, text, tests),
-        Some(Function::Search) => matcher.part_counted(alloc, pattern, text, tests),
-        Some(Function::Length | Function::Count | Function::ValueOf | Function::Distinct) | None =>
-            { Ok(false) }
+    match extent {
+        Extent::Whole => matcher.whole_counted(alloc, pattern, text, tests),
+        Extent::Part => matcher.part_counted(alloc, pattern, text, tests),
     }
 }
 

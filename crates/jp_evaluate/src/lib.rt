@@ -29,6 +29,7 @@ mod evaluating;
 mod evaluation;
 mod evaluation_fault;
 mod filter;
+mod kind;
 pub mod laws;
 mod length;
 mod lent;

@@ -1,17 +1,17 @@
-use Rattle.std.proofs.Common.{◌≡◌, ◌∷◌, IfOk, false, Some, ap, arith, length, option_map, pos, refl, rules, subst, sym, ◌∙◌}
+use Rattle.std.proofs.Common.{◌≡◌, ◌∷◌, IfOk, false, ap, arith, length, refl, rules, subst, sym, ◌∙◌}
 use Rattle.jp_document.specs.Location.{entries}
 use Rattle.jp_document.specs.Node.{root_of}
-use Rattle.jp_document.specs.Value.{whole}
 use Rattle.jp_tree.specs.declared.tree.Expr.{the_lemmas}
 use Rattle.jp_tree.specs.Tree.{call_test}
 use Rattle.jp_tree.specs.Views.{argument_of, call_of, expr_of, query_of}
-use Rattle.jp_tree.specs.declared.function.Function.TheVariants.{Count, ValueOf}
-use Rattle.jp_evaluate.specs.Functions.{only_value, value_answer}
-use Rattle.jp_evaluate.specs.Nodelist.{argument_value, holds, nodelist_at}
+use Rattle.jp_select.specs.Comparable.{comparable_of}
+use Rattle.jp_evaluate.specs.Functions.{only_value}
+use Rattle.jp_evaluate.specs.Nodelist.{holds, nodelist_at}
 use Rattle.jp_evaluate.specs.Private.Calls.{counted}
 use Rattle.jp_evaluate.specs.Private.Selecting.{nodes_query}
 use Rattle.jp_evaluate.specs.Private.Walk.{reached_node, reaches, segments_left}
-use Rattle.jp_evaluate.proofs.Parts.Counted.{counted_nodes, one-answer, test-logical, test-nodes}
+use Rattle.jp_evaluate.proofs.Parts.Counted.{no_nodes-value, test-logical, test-nodes}
+use Rattle.jp_evaluate.proofs.Parts.Counted.{value_of_nodes-answer}
 use Rattle.jp_evaluate.proofs.Walks.Kept.{keeps_then}
 use Rattle.jp_evaluate.proofs.Walks.Selects.{begun_to_come}
 use Rattle.jp_evaluate.proofs.Walks.Advances.{ends_at, ends_in_leaf, goes_on, goes_on_less, offer_less, passed_over}
@@ -47,52 +47,25 @@ filter::Asking::all_hold-holds-requires g t c κs within = (
 
 -- ---- calls
 
-pub filter::Asking::call_value-returns-in_ok-node_count-in-Some-argument_query-clause-gives :
-    goal.filter::Asking::call_value-returns-in_ok-node_count-in-Some-argument_query-clause-gives
-filter::Asking::call_value-returns-in_ok-node_count-in-Some-argument_query-clause-gives g t c =
+pub filter::Asking::call_value-returns-in-Some-argument_query-clause-gives :
+    goal.filter::Asking::call_value-returns-in-Some-argument_query-clause-gives
+filter::Asking::call_value-returns-in-Some-argument_query-clause-gives g t c =
     let d = g.V.Lent.meaning c.args.self.now.evaluation.now.root in
     let n = root_of (g.V.Lent.meaning c.args.self.now.current) in
     let x = argument_of c.in-Some.argument.now in
-    c.whole.ensures
-    ∙ ap (λ m. Some (whole (pos m))) c.in_ok-node_count-in-Some-argument_query.ensures.gives
-    ∙ ap (λ o. value_answer (Some Count) (argument_value x d n) (option_map (counted_nodes d n) o))
-    c.in-Some-argument_query.ensures.gives
-    ∙ one-answer (call_of c.args.call.now) x (Some Count) d n c.in-Some.ensures
-    (sym (ap Some c.in-Some-Count.field-0-is) ∙ c.in-Some-Count.ensures)
+    let p = nodes_query c.in-Some-argument_query.nodes in
+    subst (λ v. IfOk c.value_of_nodes.result (λ value. comparable_of g.V.Lent.meaning value ≡ v))
+    (value_of_nodes-answer (call_of c.args.call.now) x c.in-Some-function_of.function p d n
+    c.in-Some.ensures c.in-Some-function_of.ensures (sym c.in-ValueOfNodes.ensures)
+    c.in-Some-argument_query.ensures.gives) c.value_of_nodes.ensures.gives
 
 pub filter::Asking::call_value-returns-in-None-clause-gives : goal.filter::Asking::call_value-returns-in-None-clause-gives
 filter::Asking::call_value-returns-in-None-clause-gives g t c =
     let d = g.V.Lent.meaning c.args.self.now.evaluation.now.root in
     let n = root_of (g.V.Lent.meaning c.args.self.now.current) in
-    let x = argument_of c.in-Some.argument.now in
-    ap (λ o. value_answer (Some Count) (argument_value x d n) (option_map (counted_nodes d n) o))
-    c.in-None.ensures.gives
-    ∙ one-answer (call_of c.args.call.now) x (Some Count) d n c.in-Some.ensures
-    (sym (ap Some c.in-Some-Count.field-0-is) ∙ c.in-Some-Count.ensures)
-
-pub filter::Asking::call_value-returns-in_ok-only_value-in-Some-argument_query-2-clause-gives :
-    goal.filter::Asking::call_value-returns-in_ok-only_value-in-Some-argument_query-2-clause-gives
-filter::Asking::call_value-returns-in_ok-only_value-in-Some-argument_query-2-clause-gives g t c =
-    let d = g.V.Lent.meaning c.args.self.now.evaluation.now.root in
-    let n = root_of (g.V.Lent.meaning c.args.self.now.current) in
-    let x = argument_of c.in-Some.argument.now in
-    c.of.ensures
-    ∙ c.in_ok-only_value-in-Some-argument_query-2.ensures.gives
-    ∙ ap (λ o. value_answer (Some ValueOf) (argument_value x d n) (option_map (counted_nodes d n) o))
-    c.in-Some-argument_query-2.ensures.gives
-    ∙ one-answer (call_of c.args.call.now) x (Some ValueOf) d n c.in-Some.ensures
-    (sym (ap Some c.in-Some-ValueOf.field-0-is) ∙ c.in-Some-ValueOf.ensures)
-
-pub filter::Asking::call_value-returns-in-None-argument_query-clause-gives :
-    goal.filter::Asking::call_value-returns-in-None-argument_query-clause-gives
-filter::Asking::call_value-returns-in-None-argument_query-clause-gives g t c =
-    let d = g.V.Lent.meaning c.args.self.now.evaluation.now.root in
-    let n = root_of (g.V.Lent.meaning c.args.self.now.current) in
-    let x = argument_of c.in-Some.argument.now in
-    ap (λ o. value_answer (Some ValueOf) (argument_value x d n) (option_map (counted_nodes d n) o))
-    c.in-None-argument_query.ensures.gives
-    ∙ one-answer (call_of c.args.call.now) x (Some ValueOf) d n c.in-Some.ensures
-    (sym (ap Some c.in-Some-ValueOf.field-0-is) ∙ c.in-Some-ValueOf.ensures)
+    no_nodes-value (call_of c.args.call.now) (argument_of c.in-Some.argument.now)
+    c.in-Some-function_of.function d n c.in-Some.ensures c.in-Some-function_of.ensures
+    (sym c.in-ValueOfNodes.ensures) c.in-None.ensures.gives
 
 pub filter::Asking::holds-returns-in-Some-clause-gives : goal.filter::Asking::holds-returns-in-Some-clause-gives
 filter::Asking::holds-returns-in-Some-clause-gives g t c =

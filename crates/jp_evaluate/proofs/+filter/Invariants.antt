@@ -54,6 +54,9 @@ decreases-filter::Asking::operand_value g l = operand_size (operand_of l.operand
 abbrev pub decreases-filter::Asking::call_value : goal.decreases-filter::Asking::call_value
 decreases-filter::Asking::call_value g l = call_size (call_of l.call.now)
 
+abbrev pub decreases-filter::Asking::value_of_nodes : goal.decreases-filter::Asking::value_of_nodes
+decreases-filter::Asking::value_of_nodes g l = suc (query_size (query_of l.nodes.query.now))
+
 abbrev pub decreases-filter::Asking::call_holds : goal.decreases-filter::Asking::call_holds
 decreases-filter::Asking::call_holds g l = call_size (call_of l.call.now)
 

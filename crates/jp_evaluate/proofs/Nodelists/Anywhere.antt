@@ -1,12 +1,12 @@
 -- What is asked at a node depends on its value alone, and not on where it stands.
-use Rattle.std.proofs.Common.{◌≡◌, Bool, true, false, not, ◌&&◌, ◌||◌, if◌then◌else◌}
-use Rattle.std.proofs.Common.{List, [], ◌∷◌, ◌++◌, Option, Some, None, is_eq, map, option_map, pos}
-use Rattle.std.proofs.Common.{refl, ap, ap₂, sym, ◌∙◌, append_assoc}
+use Rattle.std.proofs.Common.{◌≡◌, true, false, not, ◌&&◌, ◌||◌, if◌then◌else◌}
+use Rattle.std.proofs.Common.{List, [], ◌∷◌, ◌++◌, Option, Some, None, map, option_map}
+use Rattle.std.proofs.Common.{refl, ap, ap₂, sym, ◌∙◌}
 use Rattle.std.specs.List.{filter as those_of, flat_map}
-use Rattle.std.proofs.lemmas.List.{append-nil, length-map, map-append}
-use Rattle.jp_document.specs.Location.{Step, Location, entries}
-use Rattle.jp_document.specs.Node.{Node, children, node_at, node_below, root_of}
-use Rattle.jp_document.specs.Value.{Value, whole}
+use Rattle.std.proofs.lemmas.List.{append-nil, map-append}
+use Rattle.jp_document.specs.Location.{Location, entries}
+use Rattle.jp_document.specs.Node.{Node, children, node_at, root_of}
+use Rattle.jp_document.specs.Value.{Value}
 use Rattle.jp_tree.specs.Singular.{is_singular}
 use Rattle.jp_tree.specs.Tree.{ArgumentTree, CallTree, ExprTree, ExprTrees, OperandTree, QueryTree}
 use Rattle.jp_tree.specs.Tree.{SegmentTree, SegmentTrees, SelectorTree, SelectorTrees, all_of}
@@ -18,116 +18,52 @@ use Rattle.jp_tree.specs.Tree.{query_argument, segment, segment_then, selector_t
 use Rattle.jp_check.specs.Functions.{function_named}
 use Rattle.jp_check.specs.declared.profile.Profile.TheVariants.{Extended}
 use Rattle.jp_tree.specs.declared.function.Function.{Function}
-use Rattle.jp_tree.specs.declared.function.Function.TheVariants.{Count, Distinct, Length, Match}
-use Rattle.jp_tree.specs.declared.function.Function.TheVariants.{Search, ValueOf}
 use Rattle.jp_select.specs.Comparison.{compared}
 use Rattle.jp_select.specs.Selectors.{candidates}
-use Rattle.jp_select.specs.Subtree.{beyond, nodes_in, subtree_of}
-use Rattle.jp_evaluate.specs.Functions.{logical_answer, nodes_answer, only_value, value_answer}
-use Rattle.jp_evaluate.specs.Functions.{without_repeats}
-use Rattle.jp_evaluate.proofs.Nodelists.Repeats.{others}
-use Rattle.jp_select.proofs.Rising.{cancel}
+use Rattle.jp_select.specs.Subtree.{beyond}
+use Rattle.jp_evaluate.specs.Functions.{Meaning, logical_answer, meaning, nodes_answer, nodes_of_nodes}
+use Rattle.jp_evaluate.specs.Functions.{value_answer, value_of_nodes}
+use Rattle.jp_evaluate.proofs.Nodelists.Beyond.{beyond-nothing, flat_map-beyond}
+use Rattle.jp_evaluate.proofs.Nodelists.Beyond.{has_node-beyond, nodes_below-beyond, only-beyond}
+use Rattle.jp_evaluate.proofs.Nodelists.Beyond.{those_of-beyond, visited-beyond}
+use Rattle.jp_evaluate.proofs.Nodelists.Meanings.{IsLawful, is_lawful}
 use Rattle.jp_evaluate.specs.Nodelist.{all_hold, any_holds, argument_nodes, argument_value}
 use Rattle.jp_evaluate.specs.Nodelist.{call_answer, call_holds, call_nodes, has_node, holds}
-use Rattle.jp_evaluate.specs.Nodelist.{nodelist_at, some_node}
+use Rattle.jp_evaluate.specs.Nodelist.{meaning_named, nodelist_at, some_node}
 use Rattle.jp_evaluate.specs.Nodelist.{operand_value, result, segment_result, selected, selection}
 use Rattle.jp_evaluate.specs.Nodelist.{single_node_value, visited}
 use Rattle.jp_evaluate.specs.Private.Walk.{reaches}
 
--- ---- lists of nodes further on
-
-nodes_below-beyond : (l m : Location) (es : List (Step × Value))
-    → map (node_below (l ++ m)) es ≡ map (beyond l) (map (node_below m) es)
-nodes_below-beyond l m [] = refl
-nodes_below-beyond l m (e ∷ es) =
-    ap₂ (λ k ns. node_at k e.1 ∷ ns) (append_assoc l m (e.0 ∷ [])) (nodes_below-beyond l m es)
-
-beyond-beyond : (l m : Location) (ns : List Node)
-    → map (beyond (l ++ m)) ns ≡ map (beyond l) (map (beyond m) ns)
-beyond-beyond l m [] = refl
-beyond-beyond l m (n ∷ ns) =
-    ap₂ (λ k xs. node_at k n.value ∷ xs) (append_assoc l m n.location) (beyond-beyond l m ns)
-
-beyond-nothing : (ns : List Node) → ns ≡ map (beyond []) ns
-beyond-nothing [] = refl
-beyond-nothing (n ∷ ns) = ap (λ xs. n ∷ xs) (beyond-nothing ns)
-
-flat_map-beyond : (l : Location) (f : Node → List Node) (ns : List Node)
-    → ((n : Node) → f (beyond l n) ≡ map (beyond l) (f n))
-    → flat_map f (map (beyond l) ns) ≡ map (beyond l) (flat_map f ns)
-flat_map-beyond l f [] each = refl
-flat_map-beyond l f (n ∷ ns) each =
-    ap₂ (λ xs ys. xs ++ ys) (each n) (flat_map-beyond l f ns each)
-    ∙ sym (map-append (beyond l) (f n) (flat_map f ns))
-
-those_of-beyond : (l : Location) (p q : Node → Bool) (ns : List Node)
-    → ((n : Node) → p (beyond l n) ≡ q n)
-    → those_of p (map (beyond l) ns) ≡ map (beyond l) (those_of q ns)
-those_of-beyond l p q [] same = refl
-those_of-beyond l p q (n ∷ ns) same =
-    ap₂ (λ b xs. if b then beyond l n ∷ xs else xs) (same n) (those_of-beyond l p q ns same)
-    ∙ kept (q n)
-  where
-    kept : (b : Bool)
-        → (if b then beyond l n ∷ map (beyond l) (those_of q ns)
-        else map (beyond l) (those_of q ns)) ≡
-        map (beyond l) (if b then n ∷ those_of q ns else those_of q ns)
-    kept true = refl
-    kept false = refl
-
-repeats-beyond : (l : Location) (ns : List Node)
-    → without_repeats (map (beyond l) ns) ≡ map (beyond l) (without_repeats ns)
-repeats-beyond l [] = refl
-repeats-beyond l (n ∷ ns) =
-    ap (λ t. beyond l n ∷ t)
-    (ap (those_of (others (beyond l n))) (repeats-beyond l ns)
-    ∙ those_of-beyond l (others (beyond l n)) (others n) (without_repeats ns)
-    (λ m. ap (λ o. not (is_eq o)) (cancel l n.location m.location)))
-
-visited-beyond : (b : Bool) (l : Location) (ns : List Node)
-    → visited b (map (beyond l) ns) ≡ map (beyond l) (visited b ns)
-visited-beyond false l ns = refl
-visited-beyond true l ns =
-    flat_map-beyond l subtree_of ns (λ n. beyond-beyond l n.location (nodes_in n.value))
-
 -- ---- what is asked of values alone
-
-has_node-beyond : (l : Location) (ns : List Node) → has_node (map (beyond l) ns) ≡ has_node ns
-has_node-beyond l [] = refl
-has_node-beyond l (n ∷ ns) = refl
-
-only-beyond : (l : Location) (ns : List Node) → only_value (map (beyond l) ns) ≡ only_value ns
-only-beyond l [] = refl
-only-beyond l (n ∷ []) = refl
-only-beyond l (n ∷ m ∷ ns) = refl
 
 single-beyond : (q : QueryTree) (l : Location) (ns : List Node)
     → single_node_value q (map (beyond l) ns) ≡ single_node_value q ns
 single-beyond q l ns = ap (λ v. if is_singular q then v else None) (only-beyond l ns)
 
 answer-beyond : (f : Option Function) (v : Option Value) (l : Location) (o : Option (List Node))
-    → value_answer f v (option_map (map (beyond l)) o) ≡ value_answer f v o
+    → value_answer (option_map meaning f) v (option_map (map (beyond l)) o)
+    ≡ value_answer (option_map meaning f) v o
 answer-beyond None v l o = refl
-answer-beyond (Some Length) v l o = refl
-answer-beyond (Some Count) v l None = refl
-answer-beyond (Some Count) v l (Some ns) =
-    ap (λ n. Some (whole (pos n))) (length-map ns (beyond l))
-answer-beyond (Some Match) v l o = refl
-answer-beyond (Some Search) v l o = refl
-answer-beyond (Some ValueOf) v l None = refl
-answer-beyond (Some ValueOf) v l (Some ns) = only-beyond l ns
-answer-beyond (Some Distinct) v l o = refl
+answer-beyond (Some f) v l o = of_meaning (meaning f) (is_lawful f) o
+  where
+    of_meaning : (m : Meaning) → IsLawful m → (o : Option (List Node))
+        → value_answer (Some m) v (option_map (map (beyond l)) o) ≡ value_answer (Some m) v o
+    of_meaning (value_of_nodes g) lawful None = refl
+    of_meaning (value_of_nodes g) lawful (Some ns) = lawful.beyond l ns
+    of_meaning m lawful o = refl
 
 nodes_answer-beyond : (f : Option Function) (l : Location) (o : Option (List Node))
-    → nodes_answer f (option_map (map (beyond l)) o) ≡ option_map (map (beyond l)) (nodes_answer f o)
+    → nodes_answer (option_map meaning f) (option_map (map (beyond l)) o)
+    ≡ option_map (map (beyond l)) (nodes_answer (option_map meaning f) o)
 nodes_answer-beyond None l o = refl
-nodes_answer-beyond (Some Length) l o = refl
-nodes_answer-beyond (Some Count) l o = refl
-nodes_answer-beyond (Some Match) l o = refl
-nodes_answer-beyond (Some Search) l o = refl
-nodes_answer-beyond (Some ValueOf) l o = refl
-nodes_answer-beyond (Some Distinct) l None = refl
-nodes_answer-beyond (Some Distinct) l (Some ns) = ap Some (repeats-beyond l ns)
+nodes_answer-beyond (Some f) l o = of_meaning (meaning f) (is_lawful f) o
+  where
+    of_meaning : (m : Meaning) → IsLawful m → (o : Option (List Node))
+        → nodes_answer (Some m) (option_map (map (beyond l)) o)
+        ≡ option_map (map (beyond l)) (nodes_answer (Some m) o)
+    of_meaning (nodes_of_nodes g) lawful None = refl
+    of_meaning (nodes_of_nodes g) lawful (Some ns) = ap Some (lawful.beyond l ns)
+    of_meaning m lawful o = refl
 
 some_node-beyond : (l : Location) (o : Option (List Node))
     → some_node (option_map (map (beyond l)) o) ≡ some_node o
@@ -192,9 +128,9 @@ mutual
       → call_answer f d (beyond l n) ≡ call_answer f d n
   call_answer-beyond (call cs no_arguments) d l n = refl
   call_answer-beyond (call cs (argument_then x no_arguments)) d l n =
-      ap (λ v. value_answer (function_named Extended cs) v (argument_nodes x d (beyond l n)))
+      ap (λ v. value_answer (meaning_named cs) v (argument_nodes x d (beyond l n)))
       (argument_value-beyond x d l n)
-      ∙ ap (value_answer (function_named Extended cs) (argument_value x d n))
+      ∙ ap (value_answer (meaning_named cs) (argument_value x d n))
       (argument_nodes-beyond x d l n)
       ∙ answer-beyond (function_named Extended cs) (argument_value x d n) (argument_further x l)
       (argument_nodes x d n)
@@ -205,7 +141,7 @@ mutual
   call_holds-beyond (call cs no_arguments) d l n = refl
   call_holds-beyond (call cs (argument_then x no_arguments)) d l n = refl
   call_holds-beyond (call cs (argument_then x (argument_then y no_arguments))) d l n =
-      ap₂ (logical_answer (function_named Extended cs)) (argument_value-beyond x d l n)
+      ap₂ (logical_answer (meaning_named cs)) (argument_value-beyond x d l n)
       (argument_value-beyond y d l n)
   call_holds-beyond (call cs (argument_then x (argument_then y (argument_then z rest)))) d l n =
       refl
@@ -232,7 +168,7 @@ mutual
       option_map (map (beyond (call_further f l))) (call_nodes f d n)
   call_nodes-beyond (call cs no_arguments) d l n = refl
   call_nodes-beyond (call cs (argument_then x no_arguments)) d l n =
-      ap (nodes_answer (function_named Extended cs)) (argument_nodes-beyond x d l n)
+      ap (nodes_answer (meaning_named cs)) (argument_nodes-beyond x d l n)
       ∙ nodes_answer-beyond (function_named Extended cs) (argument_further x l)
       (argument_nodes x d n)
   call_nodes-beyond (call cs (argument_then x (argument_then y rest))) d l n = refl

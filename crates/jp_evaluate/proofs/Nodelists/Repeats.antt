@@ -182,7 +182,7 @@ same (n ∷ ns) x = decided (is_same_node x n) refl (same ns x)
     decided true is later = refl
     decided false is later = there-among_others n x left is ∙ later
 
-own : (ns : List Node) → All (Contains ns) (without_repeats ns)
+pub own : (ns : List Node) → All (Contains ns) (without_repeats ns)
 own [] = All-nil (Contains [])
 own (n ∷ ns) =
     All-cons (Contains (n ∷ ns)) n (those_of (others n) (without_repeats ns))

@@ -1,13 +1,12 @@
 -- A nodelist has nodes of the document alone, and that of a singular query has at most one.
 use Rattle.std.proofs.Common.{◌≡◌, ◌≤◌, Bool, true, false, List, [], ◌∷◌, ◌++◌, length, map}
 use Rattle.std.proofs.Common.{Option, Some, None, option_to_list, refl, ◌∙◌, sym, subst, arith}
-use Rattle.std.specs.List.{All}
+use Rattle.std.specs.List.{All, Contains}
 use Rattle.std.proofs.lemmas.Bool.{and_parts}
 use Rattle.std.proofs.lemmas.List.{append-nil}
-use Rattle.std.proofs.lemmas.List.Elements.{All-append, All-cons, All-filter, All-head, All-nil}
-use Rattle.std.proofs.lemmas.List.Elements.{All-tail}
-use Rattle.std.specs.List.{filter as those_of}
-use Rattle.std.specs.Option.{IfSome}
+use Rattle.std.proofs.lemmas.List.Elements.{All-append, All-cons, All-filter, All-nil}
+use Rattle.std.proofs.lemmas.List.Elements.{All-contains, All-weaker}
+use Rattle.std.specs.Option.{IfSome, option_map}
 use Rattle.jp_document.specs.Location.{Step, Location}
 use Rattle.jp_document.specs.Node.{Node, StandsIn, children, node_below}
 use Rattle.jp_document.specs.Value.{Value}
@@ -26,12 +25,10 @@ use Rattle.jp_evaluate.specs.Nodelist.{holds, result, segment_result, selected, 
 use Rattle.jp_evaluate.specs.Nodelist.{visited}
 use Rattle.jp_check.specs.Functions.{function_named}
 use Rattle.jp_tree.specs.declared.function.Function.{Function}
-use Rattle.jp_tree.specs.declared.function.Function.TheVariants.{Count, Distinct, Length, Match}
-use Rattle.jp_tree.specs.declared.function.Function.TheVariants.{Search, ValueOf}
 use Rattle.jp_check.specs.declared.profile.Profile.TheVariants.{Extended}
-use Rattle.jp_evaluate.specs.Functions.{nodes_answer, without_repeats}
+use Rattle.jp_evaluate.specs.Functions.{Meaning, meaning, nodes_answer, nodes_of_nodes}
 use Rattle.jp_evaluate.specs.Nodelist.{argument_nodes, call_nodes}
-use Rattle.jp_evaluate.proofs.Nodelists.Repeats.{others}
+use Rattle.jp_evaluate.proofs.Nodelists.Meanings.{IsLawful, is_lawful}
 use Rattle.jp_evaluate.proofs.Nodelists.Elements.{All-flat_map_from}
 
 -- ---- nodes of the document
@@ -78,25 +75,18 @@ selects_nodes_alone (query absolute ss) d c stands =
     (All-cons (StandsIn d) (start_of absolute d c) [] (start_stands absolute d c stands)
     (All-nil (StandsIn d)))
 
-repeats_stand : (d : Value) (ns : List Node) → All (StandsIn d) ns
-    → All (StandsIn d) (without_repeats ns)
-repeats_stand d [] all = all
-repeats_stand d (n ∷ ns) all =
-    All-cons (StandsIn d) n (those_of (others n) (without_repeats ns))
-    (All-head (StandsIn d) n ns all)
-    (All-filter (others n) (StandsIn d) (without_repeats ns)
-    (repeats_stand d ns (All-tail (StandsIn d) n ns all)))
-
 answer_stands : (f : Option Function) (d : Value) (o : Option (List Node))
-    → IfSome o (All (StandsIn d)) → IfSome (nodes_answer f o) (All (StandsIn d))
+    → IfSome o (All (StandsIn d)) → IfSome (nodes_answer (option_map meaning f) o) (All (StandsIn d))
 answer_stands None d o stand = tt
-answer_stands (Some Length) d o stand = tt
-answer_stands (Some Count) d o stand = tt
-answer_stands (Some Match) d o stand = tt
-answer_stands (Some Search) d o stand = tt
-answer_stands (Some ValueOf) d o stand = tt
-answer_stands (Some Distinct) d None stand = tt
-answer_stands (Some Distinct) d (Some ns) stand = repeats_stand d ns stand
+answer_stands (Some f) d o stand = of_meaning (meaning f) (is_lawful f) o stand
+  where
+    of_meaning : (m : Meaning) → IsLawful m → (o : Option (List Node))
+        → IfSome o (All (StandsIn d)) → IfSome (nodes_answer (Some m) o) (All (StandsIn d))
+    of_meaning (nodes_of_nodes g) lawful None stand = tt
+    of_meaning (nodes_of_nodes g) lawful (Some ns) stand =
+        All-weaker (Contains ns) (StandsIn d) (λ n is. All-contains (StandsIn d) ns n stand is) (g ns)
+        (lawful.own ns)
+    of_meaning m lawful o stand = tt
 
 -- the nodes that an argument stands for, or a call answers
 mutual

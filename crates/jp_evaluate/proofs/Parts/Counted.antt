@@ -9,13 +9,16 @@ use Rattle.jp_tree.specs.Tree.{call_argument, call_test, literal_argument, logic
 use Rattle.jp_tree.specs.Tree.{no_arguments, query_argument}
 use Rattle.jp_check.specs.Functions.{function_named}
 use Rattle.jp_tree.specs.declared.function.Function.{Function}
-use Rattle.jp_tree.specs.declared.function.Function.TheVariants.{Count, Distinct, Length, Match}
-use Rattle.jp_tree.specs.declared.function.Function.TheVariants.{Search, ValueOf}
+use Rattle.jp_tree.specs.declared.function.Function.TheVariants.{Distinct}
 use Rattle.jp_check.specs.declared.profile.Profile.TheVariants.{Extended}
-use Rattle.jp_evaluate.specs.Functions.{nodes_answer, value_answer, without_repeats}
+use Rattle.jp_evaluate.specs.Functions.{Meaning, meaning, nodes_answer, value_answer}
+use Rattle.jp_evaluate.specs.Functions.{value_of_nodes, without_repeats}
+use Rattle.jp_evaluate.specs.Private.Meanings.{kind_of, made_of_nodes}
+use Rattle.jp_evaluate.specs.declared.kind.Kind.TheVariants.{ValueOfNodes}
 use Rattle.jp_evaluate.specs.Laws.{StandardCalls}
 use Rattle.jp_evaluate.specs.Nodelist.{argument_nodes, argument_value, call_answer, call_holds}
-use Rattle.jp_evaluate.specs.Nodelist.{call_nodes, has_node, holds, nodelist_at, some_node}
+use Rattle.jp_evaluate.specs.Nodelist.{call_nodes, has_node, holds, meaning_named, nodelist_at}
+use Rattle.jp_evaluate.specs.Nodelist.{some_node}
 use Rattle.jp_evaluate.specs.Private.Calls.{NodesQuery, argument_query, call_function, call_query}
 use Rattle.jp_evaluate.specs.Private.Calls.{counted, once, only_argument}
 use Rattle.jp_evaluate.proofs.Nodelists.Repeats.{repeated}
@@ -29,15 +32,11 @@ counted-once false ns = refl
 counted-once true ns = repeated ns
 
 answer-once : (f : Option Function) (o : Option NodesQuery) (d : Value) (c : Node)
-    → nodes_answer f (option_map (counted_nodes d c) o) ≡ option_map (counted_nodes d c) (once f o)
-answer-once None o d c = refl
-answer-once (Some Length) o d c = refl
-answer-once (Some Count) o d c = refl
-answer-once (Some Match) o d c = refl
-answer-once (Some Search) o d c = refl
-answer-once (Some ValueOf) o d c = refl
+    → nodes_answer (option_map meaning f) (option_map (counted_nodes d c) o)
+    ≡ option_map (counted_nodes d c) (once f o)
 answer-once (Some Distinct) None d c = refl
 answer-once (Some Distinct) (Some p) d c = ap Some (counted-once p.1 (nodelist_at p.0 d c))
+answer-once f o d c = refl
 
 mutual
   pub argument_nodes-counted : (x : ArgumentTree) (d : Value) (c : Node)
@@ -51,21 +50,54 @@ mutual
       → call_nodes f d c ≡ option_map (counted_nodes d c) (call_query f)
   call_nodes-counted (call cs no_arguments) d c = refl
   call_nodes-counted (call cs (argument_then x no_arguments)) d c =
-      ap (nodes_answer (function_named Extended cs)) (argument_nodes-counted x d c)
+      ap (nodes_answer (meaning_named cs)) (argument_nodes-counted x d c)
       ∙ answer-once (function_named Extended cs) (argument_query x) d c
   call_nodes-counted (call cs (argument_then x (argument_then y rest))) d c = refl
 
 -- what a call with one argument answers as a value
 pub one-answer : (f : CallTree) (x : ArgumentTree) (g : Option Function) (d : Value) (c : Node)
     → Some x ≡ only_argument f → g ≡ call_function f
-    → value_answer g (argument_value x d c) (option_map (counted_nodes d c) (argument_query x))
+    → value_answer (option_map meaning g) (argument_value x d c)
+    (option_map (counted_nodes d c) (argument_query x))
     ≡ call_answer f d c
 one-answer (call cs no_arguments) x g d c one named = absurd (cc)
 one-answer (call cs (argument_then y no_arguments)) x g d c one named =
-    ap (value_answer g (argument_value x d c)) (sym (argument_nodes-counted x d c))
-    ∙ ap₂ (λ h z. value_answer h (argument_value z d c) (argument_nodes z d c)) named
-    (same_Some x y one)
+    ap (value_answer (option_map meaning g) (argument_value x d c)) (sym (argument_nodes-counted x d c))
+    ∙ ap₂ (λ h z. value_answer (option_map meaning h) (argument_value z d c) (argument_nodes z d c))
+    named (same_Some x y one)
 one-answer (call cs (argument_then y (argument_then z rest))) x g d c one named = absurd (cc)
+
+-- ---- a call with one argument, of a function that makes a value of nodes
+
+made-of_nodes : (m : Meaning) (v : Option Value) (ns : List Node) → kind_of m ≡ ValueOfNodes
+    → made_of_nodes m ns ≡ value_answer (Some m) v (Some ns)
+made-of_nodes (value_of_nodes f) v ns is = refl
+made-of_nodes m v ns is = absurd (cc)
+
+made-of_none : (m : Meaning) (v : Option Value) → kind_of m ≡ ValueOfNodes
+    → None ≡ value_answer (Some m) v None
+made-of_none (value_of_nodes f) v is = refl
+made-of_none m v is = absurd (cc)
+
+pub value_of_nodes-answer : (f : CallTree) (x : ArgumentTree) (g : Function) (p : NodesQuery)
+    (d : Value) (c : Node)
+    → Some x ≡ only_argument f → Some g ≡ call_function f → kind_of (meaning g) ≡ ValueOfNodes
+    → Some p ≡ argument_query x
+    → made_of_nodes (meaning g) (counted_nodes d c p) ≡ call_answer f d c
+value_of_nodes-answer f x g p d c one named kind is =
+    made-of_nodes (meaning g) (argument_value x d c) (counted_nodes d c p) kind
+    ∙ ap (λ o. value_answer (Some (meaning g)) (argument_value x d c)
+    (option_map (counted_nodes d c) o)) is
+    ∙ one-answer f x (Some g) d c one named
+
+pub no_nodes-value : (f : CallTree) (x : ArgumentTree) (g : Function) (d : Value) (c : Node)
+    → Some x ≡ only_argument f → Some g ≡ call_function f → kind_of (meaning g) ≡ ValueOfNodes
+    → None ≡ argument_query x → None ≡ call_answer f d c
+no_nodes-value f x g d c one named kind is =
+    made-of_none (meaning g) (argument_value x d c) kind
+    ∙ ap (λ o. value_answer (Some (meaning g)) (argument_value x d c)
+    (option_map (counted_nodes d c) o)) is
+    ∙ one-answer f x (Some g) d c one named
 
 -- ---- a call as a test
 
@@ -106,14 +138,9 @@ test-nodes f d c p is =
 -- ---- other functions than `distinct`
 
 no_nodes-answer : (f : Option Function) (o : Option (List Node)) → f ≢ Some Distinct
-    → nodes_answer f o ≡ None
-no_nodes-answer None o other = refl
-no_nodes-answer (Some Length) o other = refl
-no_nodes-answer (Some Count) o other = refl
-no_nodes-answer (Some Match) o other = refl
-no_nodes-answer (Some Search) o other = refl
-no_nodes-answer (Some ValueOf) o other = refl
+    → nodes_answer (option_map meaning f) o ≡ None
 no_nodes-answer (Some Distinct) o other = absurd (other refl)
+no_nodes-answer f o other = refl
 
 no_nodes : (cs : List ℕ) (xs : ArgumentTrees) (d : Value) (c : Node)
     → function_named Extended cs ≢ Some Distinct → call_nodes (call cs xs) d c ≡ None

@@ -1,24 +1,21 @@
 -- An answer stands for what was asked, at each value.
-use Rattle.std.proofs.Common.{◌≡◌, ℕ, Bool, true, false, ◌||◌, if◌then◌else◌, List, [], ◌∷◌}
-use Rattle.std.proofs.Common.{Option, Some, None, length, option_map, pos, refl, ap, ap₂, sym, ◌∙◌}
+use Rattle.std.proofs.Common.{◌≡◌, ℕ, Bool, true, false, if◌then◌else◌, List}
+use Rattle.std.proofs.Common.{Option, Some, None, length, option_map, pos, refl, ap, sym, ◌∙◌}
 use Rattle.jp_document.specs.Node.{Node}
 use Rattle.jp_document.specs.Value.{Value, whole}
-use Rattle.jp_tree.specs.Singular.{is_singular}
 use Rattle.jp_tree.specs.declared.function.Function.{Function}
-use Rattle.jp_tree.specs.declared.function.Function.TheVariants.{Count, Distinct, Length, Match}
-use Rattle.jp_tree.specs.declared.function.Function.TheVariants.{Search, ValueOf}
-use Rattle.jp_tree.specs.Tree.{ArgumentTree, ArgumentTrees, CallTree, ExprTree, OperandTree}
+use Rattle.jp_tree.specs.declared.function.Function.TheVariants.{Count}
+use Rattle.jp_tree.specs.Tree.{ArgumentTrees, CallTree, ExprTree}
 use Rattle.jp_tree.specs.Tree.{QueryTree, all_of, any_of, argument_then, call, call_test}
-use Rattle.jp_tree.specs.Tree.{call_value, comparison, exists, negation, no_arguments, query}
+use Rattle.jp_tree.specs.Tree.{comparison, exists, negation, no_arguments, query}
 use Rattle.jp_tree.specs.Tree.{LiteralTree}
 use Rattle.jp_check.specs.Functions.{function_named}
 use Rattle.jp_check.specs.declared.profile.Profile.TheVariants.{Extended}
-use Rattle.jp_evaluate.specs.Functions.{nodes_answer, value_answer}
-use Rattle.jp_evaluate.specs.Nodelist.{argument_nodes, argument_value, call_answer, call_holds}
-use Rattle.jp_evaluate.specs.Nodelist.{call_nodes, has_node, holds, literal_value, nodelist}
-use Rattle.jp_evaluate.specs.Nodelist.{nodelist_at, operand_value, single_node_value}
+use Rattle.jp_evaluate.specs.Functions.{meaning, nodes_answer, value_answer}
+use Rattle.jp_evaluate.specs.Nodelist.{argument_nodes, argument_value, call_answer}
+use Rattle.jp_evaluate.specs.Nodelist.{call_nodes, has_node, holds, meaning_named}
+use Rattle.jp_evaluate.specs.Nodelist.{nodelist, nodelist_at, operand_value}
 use Rattle.jp_evaluate.specs.Private.Calls.{NodesQuery, argument_query, call_query, counted}
-use Rattle.jp_evaluate.specs.Private.PathTrees.{path_tree}
 use Rattle.jp_evaluate.specs.Private.Settled.{count_answer, count_argument, count_literal}
 use Rattle.jp_evaluate.specs.Private.Settled.{count_nodes, count_operand, given_query, is_asked_once}
 use Rattle.jp_evaluate.specs.Private.Settled.{nodes_once, query_once, settled_test, test_answer}
@@ -71,27 +68,18 @@ count-once f p true d c once answers =
 count-once f p false d c once answers = refl
 
 count-nodes : (f : CallTree) (h : Option Function) (o : Option NodesQuery) (v : Option Value)
-    (d : Value) (c : Node) → value_answer h v (option_map (counted_nodes d c) o) ≡ call_answer f d c
+    (d : Value) (c : Node)
+    → value_answer (option_map meaning h) v (option_map (counted_nodes d c) o) ≡ call_answer f d c
     → operand_value (count_operand f (option_map (count_literal d) (count_nodes h o))) d c
     ≡ call_answer f d c
-count-nodes f None o v d c answers = refl
-count-nodes f (Some Length) o v d c answers = refl
-count-nodes f (Some Match) o v d c answers = refl
-count-nodes f (Some Search) o v d c answers = refl
-count-nodes f (Some ValueOf) o v d c answers = refl
-count-nodes f (Some Distinct) o v d c answers = refl
 count-nodes f (Some Count) None v d c answers = refl
 count-nodes f (Some Count) (Some p) v d c answers =
     count-once f p (is_asked_once p.0) d c refl answers
+count-nodes f h o v d c answers = refl
 
 no_nodes : (h : Option Function) → count_nodes h None ≡ None
-no_nodes None = refl
-no_nodes (Some Length) = refl
-no_nodes (Some Match) = refl
-no_nodes (Some Search) = refl
-no_nodes (Some ValueOf) = refl
-no_nodes (Some Distinct) = refl
 no_nodes (Some Count) = refl
+no_nodes h = refl
 
 not_counted : (f : CallTree) (h : Option Function) (d : Value) (c : Node)
     → operand_value (count_operand f (option_map (count_literal d) (count_nodes h None))) d c
@@ -106,7 +94,7 @@ count-same (call cs no_arguments) d c =
 count-same (call cs (argument_then x no_arguments)) d c =
     count-nodes (call cs (argument_then x no_arguments)) (function_named Extended cs)
     (argument_query x) (argument_value x d c) d c
-    (sym (ap (value_answer (function_named Extended cs) (argument_value x d c))
+    (sym (ap (value_answer (meaning_named cs) (argument_value x d c))
     (argument_nodes-counted x d c)))
 count-same (call cs (argument_then x (argument_then y rest))) d c =
     not_counted (call cs (argument_then x (argument_then y rest))) (function_named Extended cs) d c
@@ -126,24 +114,19 @@ count-has-no-nodes : (f : CallTree) (h : Option Function) (o : Option NodesQuery
     (c : Node) → (h ≡ Some Count → call_nodes f d c ≡ None)
     → argument_nodes (count_argument f (option_map (count_literal d) (count_nodes h o))) d c
     ≡ call_nodes f d c
-count-has-no-nodes f None o d c none = refl
-count-has-no-nodes f (Some Length) o d c none = refl
-count-has-no-nodes f (Some Match) o d c none = refl
-count-has-no-nodes f (Some Search) o d c none = refl
-count-has-no-nodes f (Some ValueOf) o d c none = refl
-count-has-no-nodes f (Some Distinct) o d c none = refl
 count-has-no-nodes f (Some Count) o d c none = either (nodes_once o)
   where
     either : (p : Option NodesQuery)
         → argument_nodes (count_argument f (option_map (count_literal d) p)) d c ≡ call_nodes f d c
     either None = refl
     either (Some p) = sym (none refl)
+count-has-no-nodes f h o d c none = refl
 
 count_nodes-none : (cs : List ℕ) (xs : ArgumentTrees) (d : Value) (c : Node)
     → function_named Extended cs ≡ Some Count → call_nodes (call cs xs) d c ≡ None
 count_nodes-none cs no_arguments d c named = refl
 count_nodes-none cs (argument_then x no_arguments) d c named =
-    ap (λ h. nodes_answer h (argument_nodes x d c)) named
+    ap (λ h. nodes_answer (option_map meaning h) (argument_nodes x d c)) named
 count_nodes-none cs (argument_then x (argument_then y rest)) d c named = refl
 
 pub argument_nodes-same : (f : CallTree) (d : Value) (c : Node)

@@ -1,6 +1,6 @@
 -- A query with answers in its filters has the nodelist that it had.
 use Rattle.std.proofs.Common.{◌≡◌, ◌++◌, Bool, true, false, not, ◌&&◌, ◌||◌, if◌then◌else◌, List}
-use Rattle.std.proofs.Common.{ℕ, [], ◌∷◌, Option, Some, None, refl, ap, ap₂, sym, ◌∙◌}
+use Rattle.std.proofs.Common.{ℕ, [], ◌∷◌, Option, Some, None, refl, ap, ap₂, ◌∙◌}
 use Rattle.std.specs.List.{filter as those_of, flat_map}
 use Rattle.std.proofs.Math.Path.{fun_ext}
 use Rattle.jp_document.specs.Node.{Node, children}
@@ -14,15 +14,13 @@ use Rattle.jp_tree.specs.Tree.{literal, literal_argument, logical_argument, name
 use Rattle.jp_tree.specs.Tree.{no_arguments, no_exprs, no_segments, no_selectors, node_value}
 use Rattle.jp_tree.specs.Tree.{query, query_argument, segment, segment_then, selector_then, slice}
 use Rattle.jp_tree.specs.Tree.{wildcard}
-use Rattle.jp_check.specs.Functions.{function_named}
-use Rattle.jp_check.specs.declared.profile.Profile.TheVariants.{Extended}
 use Rattle.jp_select.specs.Comparison.{compared}
 use Rattle.jp_evaluate.specs.Functions.{logical_answer, nodes_answer, only_value, value_answer}
 use Rattle.jp_evaluate.specs.Nodelist.{all_hold, any_holds, argument_nodes, argument_value}
 use Rattle.jp_evaluate.specs.Nodelist.{call_answer, call_holds, call_nodes, has_node, holds}
-use Rattle.jp_evaluate.specs.Nodelist.{nodelist_at, operand_value, result, segment_result, selected}
-use Rattle.jp_evaluate.specs.Nodelist.{selection, single_node_value, some_node, start_of, visited}
-use Rattle.jp_evaluate.specs.Private.Settled.{count_answer, count_argument, settled_argument}
+use Rattle.jp_evaluate.specs.Nodelist.{meaning_named, nodelist_at, operand_value, result}
+use Rattle.jp_evaluate.specs.Nodelist.{segment_result, selected, selection, some_node, start_of, visited}
+use Rattle.jp_evaluate.specs.Private.Settled.{settled_argument}
 use Rattle.jp_evaluate.specs.Private.Settled.{settled_arguments, settled_call, settled_expr}
 use Rattle.jp_evaluate.specs.Private.Settled.{settled_exprs, settled_operand, settled_query}
 use Rattle.jp_evaluate.specs.Private.Settled.{settled_segment, settled_segments, settled_selector}
@@ -141,7 +139,7 @@ mutual
       → call_answer (call cs (settled_arguments d xs)) d c ≡ call_answer (call cs xs) d c
   arguments_answer-same cs no_arguments d c = refl
   arguments_answer-same cs (argument_then x no_arguments) d c =
-      ap₂ (value_answer (function_named Extended cs)) (value_of-same x d c) (nodes_of-same x d c)
+      ap₂ (value_answer (meaning_named cs)) (value_of-same x d c) (nodes_of-same x d c)
   arguments_answer-same cs (argument_then x (argument_then y rest)) d c = refl
 
   arguments_hold-same : (cs : List ℕ) (xs : ArgumentTrees) (d : Value) (c : Node)
@@ -149,14 +147,14 @@ mutual
   arguments_hold-same cs no_arguments d c = refl
   arguments_hold-same cs (argument_then x no_arguments) d c = refl
   arguments_hold-same cs (argument_then x (argument_then y no_arguments)) d c =
-      ap₂ (logical_answer (function_named Extended cs)) (value_of-same x d c) (value_of-same y d c)
+      ap₂ (logical_answer (meaning_named cs)) (value_of-same x d c) (value_of-same y d c)
   arguments_hold-same cs (argument_then x (argument_then y (argument_then z rest))) d c = refl
 
   arguments_nodes-same : (cs : List ℕ) (xs : ArgumentTrees) (d : Value) (c : Node)
       → call_nodes (call cs (settled_arguments d xs)) d c ≡ call_nodes (call cs xs) d c
   arguments_nodes-same cs no_arguments d c = refl
   arguments_nodes-same cs (argument_then x no_arguments) d c =
-      ap (nodes_answer (function_named Extended cs)) (nodes_of-same x d c)
+      ap (nodes_answer (meaning_named cs)) (nodes_of-same x d c)
   arguments_nodes-same cs (argument_then x (argument_then y rest)) d c = refl
 
   value_of-same : (x : ArgumentTree) (d : Value) (c : Node)

@@ -5,16 +5,15 @@ use Rattle.jp_document.specs.Node.{Node}
 use Rattle.jp_document.specs.Value.{Value}
 use Rattle.jp_tree.specs.Singular.{is_singular}
 use Rattle.jp_tree.specs.declared.function.Function.{Function}
-use Rattle.jp_tree.specs.declared.function.Function.TheVariants.{Count, Distinct, Length, Match}
-use Rattle.jp_tree.specs.declared.function.Function.TheVariants.{Search, ValueOf}
+use Rattle.jp_tree.specs.declared.function.Function.TheVariants.{ValueOf}
 use Rattle.jp_tree.specs.Tree.{ArgumentTree, CallTree, QueryTree, argument_then, call}
 use Rattle.jp_tree.specs.Tree.{no_arguments, query_argument}
 use Rattle.jp_check.specs.Functions.{function_named}
 use Rattle.jp_check.specs.declared.profile.Profile.TheVariants.{Extended}
 use Rattle.jp_select.proofs.Comparisons.Sameness.{equals_is}
-use Rattle.jp_evaluate.specs.Functions.{nodes_answer, only_value, value_answer}
+use Rattle.jp_evaluate.specs.Functions.{meaning, nodes_answer, only_value, value_answer}
 use Rattle.jp_evaluate.specs.Nodelist.{argument_nodes, argument_value, call_answer, call_holds}
-use Rattle.jp_evaluate.specs.Nodelist.{call_nodes, nodelist, single_node_value}
+use Rattle.jp_evaluate.specs.Nodelist.{call_nodes, meaning_named, nodelist, single_node_value}
 use Rattle.jp_evaluate.specs.Private.Calls.{NodesQuery, argument_query, counted}
 use Rattle.jp_evaluate.specs.Private.PathTrees.{path_tree}
 use Rattle.jp_evaluate.specs.Private.Settled.{is_asked_once, is_at_path, only_node}
@@ -53,8 +52,8 @@ only_node-value (n ∷ m ∷ ns) = refl
 -- ---- one argument
 
 no_nodes-value : (h : Option Function) (o : Option (List Node)) → h ≡ Some ValueOf
-    → nodes_answer h o ≡ None
-no_nodes-value h o is = ap (λ g. nodes_answer g o) is
+    → nodes_answer (option_map meaning h) o ≡ None
+no_nodes-value h o is = ap (λ g. nodes_answer (option_map meaning g) o) is
 
 with_path : (cs : List ℕ) (x : ArgumentTree) (n : Node) (b : Bool) (d : Value) (c : Node)
     → function_named Extended cs ≡ Some ValueOf
@@ -67,7 +66,7 @@ with_path : (cs : List ℕ) (x : ArgumentTree) (n : Node) (b : Bool) (d : Value)
 with_path cs x n false d c named leads answers = alike d c (call cs (argument_then x no_arguments))
 with_path cs x n true d c named leads answers = record {
   value =
-      ap (λ g. value_answer g (argument_value (query_argument (path_tree n.location)) d c)
+      ap (λ g. value_answer (option_map meaning g) (argument_value (query_argument (path_tree n.location)) d c)
       (Some (nodelist (path_tree n.location) d))) named
       ∙ at_path (path_tree n.location) d n.value leads ∙ answers;
   truth = refl;
@@ -104,31 +103,21 @@ value-once cs x p true d c named once answers =
 
 value-nodes : (cs : List ℕ) (x : ArgumentTree) (h : Option Function) (o : Option NodesQuery)
     (d : Value) (c : Node) → function_named Extended cs ≡ h
-    → value_answer h (argument_value x d c) (option_map (counted_nodes d c) o)
+    → value_answer (option_map meaning h) (argument_value x d c) (option_map (counted_nodes d c) o)
     ≡ call_answer (call cs (argument_then x no_arguments)) d c
     → AnswerAlike d c
     (value_call d (call cs (argument_then x no_arguments)) (value_nodes h o))
     (call cs (argument_then x no_arguments))
-value-nodes cs x None o d c named answers = alike d c _
-value-nodes cs x (Some Length) o d c named answers = alike d c _
-value-nodes cs x (Some Match) o d c named answers = alike d c _
-value-nodes cs x (Some Search) o d c named answers = alike d c _
-value-nodes cs x (Some Count) o d c named answers = alike d c _
-value-nodes cs x (Some Distinct) o d c named answers = alike d c _
 value-nodes cs x (Some ValueOf) None d c named answers = alike d c _
 value-nodes cs x (Some ValueOf) (Some p) d c named answers =
     value-once cs x p (is_asked_once p.0) d c named refl answers
+value-nodes cs x h o d c named answers = alike d c _
 
 -- ---- all calls
 
 no_nodes : (h : Option Function) → value_nodes h None ≡ None
-no_nodes None = refl
-no_nodes (Some Length) = refl
-no_nodes (Some Match) = refl
-no_nodes (Some Search) = refl
 no_nodes (Some ValueOf) = refl
-no_nodes (Some Distinct) = refl
-no_nodes (Some Count) = refl
+no_nodes h = refl
 
 stays : (f : CallTree) (h : Option Function) (d : Value) (c : Node)
     → AnswerAlike d c (value_call d f (value_nodes h None)) f
@@ -139,7 +128,7 @@ value-same (call cs no_arguments) d c =
     stays (call cs no_arguments) (function_named Extended cs) d c
 value-same (call cs (argument_then x no_arguments)) d c =
     value-nodes cs x (function_named Extended cs) (argument_query x) d c refl
-    (sym (ap (value_answer (function_named Extended cs) (argument_value x d c))
+    (sym (ap (value_answer (meaning_named cs) (argument_value x d c))
     (argument_nodes-counted x d c)))
 value-same (call cs (argument_then x (argument_then y rest))) d c =
     stays (call cs (argument_then x (argument_then y rest))) (function_named Extended cs) d c

@@ -7,8 +7,8 @@ use Rattle.jp_iregexp.specs.Tree.{tree}
 use Rattle.jp_evaluate.proofs.Matching.{part_answer, whole_answer}
 use Rattle.jp_evaluate.proofs.evaluating.is_matched.Goals as goal
 
-pub returns-in-Some-Match : goal.returns-in-Some-Match
-returns-in-Some-Match g c =
+pub returns-in-Whole : goal.returns-in-Whole
+returns-in-Whole g c =
     let string = chars c.args.text.now in
     let read = tree c.args.pattern.now.pattern in
     let exact : IfOk c.whole_counted.result (λ answer. (spelled : List ℕ)
@@ -18,8 +18,8 @@ returns-in-Some-Match g c =
     c.whole_counted.ensures.exact in
     search rules
 
-pub returns-in-Some-Search : goal.returns-in-Some-Search
-returns-in-Some-Search g c =
+pub returns-in-Part : goal.returns-in-Part
+returns-in-Part g c =
     let string = chars c.args.text.now in
     let read = tree c.args.pattern.now.pattern in
     let exact : IfOk c.part_counted.result (λ answer. (spelled : List ℕ)
