@@ -1,5 +1,5 @@
 -- Calls as the code goes through them.
-use Rattle.std.specs.Prelude.{ℕ, List, Option, Some, None}
+use Rattle.std.specs.Prelude.{ℕ, Bool, true, false, if◌then◌else◌, List, Option, Some, None}
 use Rattle.jp_query.specs.Components.{QueryComponent, arguments_components, count}
 use Rattle.jp_tree.specs.declared.function.Function.{Function}
 use Rattle.jp_tree.specs.declared.function.Function.TheVariants.{Distinct}
@@ -11,9 +11,14 @@ use Rattle.jp_check.specs.declared.profile.Profile.TheVariants.{Standard}
 use Rattle.jp_check.specs.Functions.{Signature, signature_named}
 use Rattle.jp_check.specs.Types.{wanted_of_arguments}
 
+-- it is added to those of the standard
+abbrev pub is_added : Function → Bool
+is_added Distinct = true
+is_added _ = false
+
 -- the function that some name has, if the profile has it
 abbrev pub function_within : Profile → Option Function → Option Function
-function_within Standard (Some Distinct) = None
+function_within Standard (Some function) = if is_added function then None else Some function
 function_within profile function = function
 
 -- the types of a function
