@@ -91,7 +91,7 @@ pub(crate) fn lines(
 {
     let mut patterns = Patterns::new(alloc);
     match selected_lines(alloc, form, "", None, root, query, &mut patterns, steps) {
-        Ok(text) => Ok(text),
+        Ok(lines) => Ok(lines.text),
         Err(fault) => Err(FindFault::from(fault)),
     }
 }

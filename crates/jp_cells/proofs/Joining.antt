@@ -1,17 +1,13 @@
 -- Cells that stand in a row, and one more.
-use Rattle.std.proofs.Common.{◌≡◌, ◌||◌, Bool, true, false, ℕ, ◌+◌, ◌<◌, ◌≤◌, ◌==◌, List, [], ◌∷◌, ◌++◌, length, take, get_or, map}
+use Rattle.std.proofs.Common.{◌≡◌, ℕ, ◌+◌, ◌<◌, ◌≤◌, ◌==◌, List, [], ◌∷◌, ◌++◌, length, take, get_or, map}
 use Rattle.std.proofs.Common.{ap, sym, ◌∙◌, refl, append_assoc, arith, if◌then◌else◌, suc}
 use Rattle.std.proofs.Math.Dec.{eqb-suc-zero}
 use Rattle.std.proofs.Math.Numerals.{add-one}
 use Rattle.std.proofs.Math.Seq.{take-suc}
-use Rattle.std.proofs.lemmas.List.{length-map, length-take-le, map-append, take-map, take_all}
-use Rattle.std.proofs.lemmas.List.Folds.{list_any-append}
-use Rattle.std.specs.List.{join_with_byte, list_any}
+use Rattle.std.proofs.lemmas.Grind.{flat_map-append}
+use Rattle.std.proofs.lemmas.List.{append-nil, length-append, length-map, length-take-le, map-append, take-map, take_all}
+use Rattle.std.specs.List.{flat_map, join_with_byte}
 use mathlib.Core.List.{map-map}
-
-or_false : (b : Bool) → b || false ≡ b
-or_false true = refl
-or_false false = refl
 
 -- what stands before a cell: a byte, but nothing before the first
 abbrev pub before_cell : ℕ → ℕ → List ℕ
@@ -49,14 +45,17 @@ taken f v xs n d within =
     ap (map f) (one-more v xs n d within)
     ∙ map-append f (take n (map v xs)) (v (get_or xs n d) ∷ [])
 
--- whether it passes, or one before it
-pub some-more : {X Y : Type 0} (p : Y → Bool) (v : X → Y) (xs : List X) (n : ℕ) (d : X)
+-- how many it has, and those before it
+pub more-counted : {X Y Z : Type 0} (f : Y → List Z) (v : X → Y) (xs : List X) (n : ℕ) (d : X)
     → n < length xs
-    → list_any p (take (n + 1) (map v xs)) ≡ list_any p (take n (map v xs)) || p (v (get_or xs n d))
-some-more p v xs n d within =
-    ap (list_any p) (one-more v xs n d within)
-    ∙ list_any-append p (take n (map v xs)) (v (get_or xs n d) ∷ [])
-    ∙ ap (λ b. list_any p (take n (map v xs)) || b) (or_false (p (v (get_or xs n d))))
+    → length (flat_map f (take (n + 1) (map v xs)))
+    ≡ length (flat_map f (take n (map v xs))) + length (f (v (get_or xs n d)))
+more-counted f v xs n d within =
+    let before = flat_map f (take n (map v xs)) in
+    let x = v (get_or xs n d) in
+    ap (λ ys. length (flat_map f ys)) (one-more v xs n d within)
+    ∙ ap length (flat_map-append f (take n (map v xs)) (x ∷ []) ∙ ap (λ zs. before ++ zs) (append-nil (f x)))
+    ∙ length-append before (f x)
 
 taken-length : {X Y : Type 0} (f : Y → List ℕ) (v : X → Y) (xs : List X) (n : ℕ) → n ≤ length xs
     → length (map f (take n (map v xs))) ≡ n

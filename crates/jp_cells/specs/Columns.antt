@@ -1,6 +1,6 @@
 -- The row of a document: a cell for each query.
-use Rattle.std.specs.Prelude.{ℕ, Bool, List, map}
-use Rattle.std.specs.List.{list_any}
+use Rattle.std.specs.Prelude.{ℕ, Bool, List, length, map}
+use Rattle.std.specs.List.{flat_map, list_any}
 use Rattle.jp_document.specs.Value.{Value}
 use Rattle.jp_evaluate.specs.Nodelist.{has_node, nodelist}
 use Rattle.jp_tree.specs.Tree.{QueryTree}
@@ -11,6 +11,10 @@ use Rattle.jp_cells.specs.declared.style.Style.{Style}
 -- the text of the cell of a query: that of the values in its nodelist (RFC 9535 section 2.1.2)
 abbrev pub cell_of : Bool → Value → QueryTree → List ℕ
 cell_of raw d q = cell_text raw (values_in (nodelist q d))
+
+-- how many nodes the queries select in the document d, all together
+abbrev pub nodes_in : Value → List QueryTree → ℕ
+nodes_in d qs = length (flat_map (λ q. nodelist q d) qs)
 
 -- one of the queries selects a node in the document d
 abbrev pub some_node_in : Value → List QueryTree → Bool

@@ -1,16 +1,16 @@
 //! The row of a document: a cell for each query.
 
-ghost use Rattle.std.specs.Prelude.{◌≡◌, ◌∷◌, ◌++◌, IfOk, OnOk, false, map, string_bytes};
+ghost use Rattle.std.specs.Prelude.{◌≡◌, ◌+◌, ◌∷◌, ◌++◌, IfOk, OnOk, false, length, map, string_bytes};
 ghost use Rattle.std.specs.List.{flat_map};
 ghost use Rattle.jp_document.specs.Text.{text_of};
 ghost use Rattle.jp_document.specs.Value.{items_of, list};
 ghost use Rattle.jp_tree.specs.Views.{query_of};
 ghost use Rattle.jp_select.specs.Steps.{Takes};
 ghost use Rattle.jp_evaluate.specs.Lent.{has_failed, rest_of, steps_of};
-ghost use Rattle.jp_evaluate.specs.Nodelist.{has_node, nodelist};
+ghost use Rattle.jp_evaluate.specs.Nodelist.{nodelist};
 ghost use Rattle.jp_evaluate.specs.Stopping.{StopsSpent};
 ghost use Rattle.jp_cells.specs.Cells.{cell_text, values_in};
-ghost use Rattle.jp_cells.specs.Columns.{cell_of, columns_text, some_node_in};
+ghost use Rattle.jp_cells.specs.Columns.{cell_of, columns_text, nodes_in};
 ghost use Rattle.jp_cells.specs.Fields.{field_text};
 ghost use Rattle.jp_cells.specs.Private.Lists.{behind_comma};
 
@@ -46,8 +46,9 @@ impl Room {
 }
 
 /// Appends the row of the document whose value is the root: a cell for each query, in their order. The
-/// evaluations take from `steps` those that they make. Answers whether a query selects a node. The
-/// errors are that memory ran out and that the steps are used up; after both nothing is said of the row.
+/// evaluations take from `steps` those that they make. Answers how many nodes the queries select together.
+/// The errors are that memory ran out, or that there are more nodes than 2^64 - 1, and that the steps are
+/// used up; after both nothing is said of the row.
 pub fn push_columns<'d: 'q, 'q, V: Selectable + 'd>(
     alloc: Global,
     style: Style,
@@ -56,9 +57,9 @@ pub fn push_columns<'d: 'q, 'q, V: Selectable + 'd>(
     room: &mut Room,
     steps: &mut Steps,
     row: &mut String,
-) -> Result<bool, EvaluationFault>
-    ensures selected { IfOk result (λ selected. selected
-        ≡ some_node_in (V.meaning root) (map (λ c. query_of c.query) queries.now)) }
+) -> Result<u64, EvaluationFault>
+    ensures count { IfOk result (λ count. count
+        ≡ nodes_in (V.meaning root) (map (λ c. query_of c.query) queries.now)) }
     ensures row { OnOk result (string_bytes row.new ≡ string_bytes row.old
         ++ columns_text style (map (λ c. query_of c.query) queries.now) (V.meaning root)) }
     ensures takes { Takes steps.old steps.new }
@@ -66,17 +67,17 @@ pub fn push_columns<'d: 'q, 'q, V: Selectable + 'd>(
 {
     let begin = row.len();
     let mut frames: Vec<Frame<'d, V>> = Vec::new(alloc);
-    let mut selected = false;
+    let mut count: u64 = 0;
     for (column, query) in queries.iter().enumerate() {
         push_separator(style.format, column, row)?;
-        let some = push_column(alloc, style, root, query, room, &mut frames, steps, row)?;
-        selected |= some;
+        let more = push_column(alloc, style, root, query, room, &mut frames, steps, row)?;
+        count = count.checked_add(more).ok_or(AllocError)?;
     }
     end_row(style.format, begin, row)?;
-    Ok(selected)
+    Ok(count)
 }
 
-/// Appends the cell of a query, as it stands in a row. Answers whether it selects a node.
+/// Appends the cell of a query, as it stands in a row. Answers how many nodes it selects.
 fn push_column<'d: 'q, 'q, V: Selectable + 'd>(
     alloc: Global,
     style: Style,
@@ -86,9 +87,9 @@ fn push_column<'d: 'q, 'q, V: Selectable + 'd>(
     frames: &mut Vec<Frame<'d, V>>,
     steps: &mut Steps,
     row: &mut String,
-) -> Result<bool, EvaluationFault>
-    ensures selected { IfOk result (λ selected. selected
-        ≡ has_node (nodelist (query_of query.now.query) (V.meaning root))) }
+) -> Result<u64, EvaluationFault>
+    ensures count { IfOk result (λ count. count
+        ≡ length (nodelist (query_of query.now.query) (V.meaning root))) }
     ensures cell { OnOk result (string_bytes row.new ≡ string_bytes row.old
         ++ field_text style (cell_of style.raw (V.meaning root) (query_of query.now.query))) }
     ensures takes { Takes steps.old steps.new }
@@ -100,44 +101,48 @@ fn push_column<'d: 'q, 'q, V: Selectable + 'd>(
     room.cell.clear();
     let pushed = push_cell(style.raw, &mut nodes, &mut room.cell);
     (room.patterns, *steps, *frames) = nodes.into_rooms();
-    let selected = pushed?;
+    let count = pushed?;
     push_field(style, room.cell.as_str(), row)?;
-    Ok(selected)
+    Ok(count)
 }
 
 /// Appends the text of the cell in which the values of the nodes stand that are still to come. Answers
-/// whether there are any.
+/// how many there are.
 fn push_cell<'d: 'q, 'q, V: Selectable + 'd>(
     raw: bool,
     nodes: &mut LentNodes<'d, 'q, V, Marks>,
     cell: &mut String,
-) -> Result<bool, EvaluationFault>
+) -> Result<u64, EvaluationFault>
     requires { has_failed nodes.now ≡ false }
-    ensures selected { IfOk result (λ selected. selected ≡ has_node (rest_of V.meaning nodes.old)) }
+    ensures count { IfOk result (λ count. count ≡ length (rest_of V.meaning nodes.old)) }
     ensures cell { OnOk result (string_bytes cell.new ≡ string_bytes cell.old
         ++ cell_text raw (values_in (rest_of V.meaning nodes.old))) }
     ensures takes { Takes (steps_of nodes.old) (steps_of nodes.new) }
     ensures stopped { StopsSpent result (steps_of nodes.new) }
 {
     let Some(first) = nodes.next_value() else {
-        return Ok(false);
+        return Ok(0);
     };
     let first = first?;
     match nodes.next_value() {
-        None => push_alone(raw, first, cell)?,
-        Some(second) => push_list(first, second?, nodes, cell)?,
+        None => {
+            push_alone(raw, first, cell)?;
+            Ok(1)
+        }
+        Some(second) => push_list(first, second?, nodes, cell),
     }
-    Ok(true)
 }
 
-/// Appends a JSON list of two values and of those of the nodes that are still to come.
+/// Appends a JSON list of two values and of those of the nodes that are still to come. Answers how many
+/// values it has.
 fn push_list<'d: 'q, 'q, V: Selectable + 'd>(
     first: V,
     second: V,
     nodes: &mut LentNodes<'d, 'q, V, Marks>,
     cell: &mut String,
-) -> Result<(), EvaluationFault>
+) -> Result<u64, EvaluationFault>
     requires { has_failed nodes.now ≡ false }
+    ensures count { IfOk result (λ count. count ≡ 2 + length (rest_of V.meaning nodes.old)) }
     ensures cell { OnOk result (string_bytes cell.new ≡ string_bytes cell.old
         ++ text_of (list (items_of (V.meaning first ∷ V.meaning second
         ∷ values_in (rest_of V.meaning nodes.old))))) }
@@ -147,27 +152,31 @@ fn push_list<'d: 'q, 'q, V: Selectable + 'd>(
     cell.push('[')?;
     push_value(cell, first)?;
     push_behind_comma(second, cell)?;
-    push_others(nodes, cell)?;
+    let others = push_others(nodes, cell)?;
     cell.push(']')?;
-    Ok(())
+    let count = others.checked_add(2).ok_or(AllocError)?;
+    Ok(count)
 }
 
-/// Appends a comma and a value for each node that is still to come.
+/// Appends a comma and a value for each node that is still to come. Answers how many there are.
 fn push_others<'d: 'q, 'q, V: Selectable + 'd>(
     nodes: &mut LentNodes<'d, 'q, V, Marks>,
     cell: &mut String,
-) -> Result<(), EvaluationFault>
+) -> Result<u64, EvaluationFault>
     requires { has_failed nodes.now ≡ false }
+    ensures count { IfOk result (λ count. count ≡ length (rest_of V.meaning nodes.old)) }
     ensures cell { OnOk result (string_bytes cell.new ≡ string_bytes cell.old
         ++ flat_map behind_comma (values_in (rest_of V.meaning nodes.old))) }
     ensures takes { Takes (steps_of nodes.old) (steps_of nodes.new) }
     ensures stopped { StopsSpent result (steps_of nodes.new) }
 {
+    let mut count: u64 = 0;
     while let Some(next) = nodes.next_value() {
         let value = next?;
+        count = count.checked_add(1).ok_or(AllocError)?;
         push_behind_comma(value, cell)?;
     }
-    Ok(())
+    Ok(count)
 }
 
 /// Appends a comma and a value.

@@ -50,8 +50,13 @@ fn rows(rt: HostRuntime) -> Result<(), Fail> {
     Ok(())
 }
 
-/// The row of a document.
-fn row_of(alloc: Global, style: Style, queries: &[&str], document: &str) -> Result<String, Fail> {
+/// The row of a document, and how many nodes its queries select.
+fn row_of(
+    alloc: Global,
+    style: Style,
+    queries: &[&str],
+    document: &str,
+) -> Result<(String, u64), Fail> {
     let mut read = Vec::new(alloc);
     for query in queries {
         let query = read_query(alloc, query, Profile::Standard)
@@ -66,7 +71,7 @@ fn row_of(alloc: Global, style: Style, queries: &[&str], document: &str) -> Resu
     let root = document.value();
     let pushed = push_columns(alloc, style, root, &read, &mut room, &mut steps, &mut row);
     match pushed {
-        Ok(_) => Ok(row),
+        Ok(count) => Ok((row, count)),
         Err(_) => Err("no memory")?,
     }
 }
@@ -76,24 +81,37 @@ fn columns(rt: HostRuntime) -> Result<(), Fail> {
     let queries = ["$.a", "$.b[*]", "$.c"];
     let document = r#"{"a":"x\ty","b":[1,"2",[3]],"c":{"d":null}}"#;
     let table = [
-        (TABS, document, "\"x\\ty\"\t[1,\"2\",[3]]\t{\"d\":null}\n"),
-        (RAW_TABS, document, "x\\ty\t[1,\"2\",[3]]\t{\"d\":null}\n"),
+        (
+            TABS,
+            document,
+            "\"x\\ty\"\t[1,\"2\",[3]]\t{\"d\":null}\n",
+            5,
+        ),
+        (
+            RAW_TABS,
+            document,
+            "x\\ty\t[1,\"2\",[3]]\t{\"d\":null}\n",
+            5,
+        ),
         (
             CSV,
             document,
             "\"\"\"x\\ty\"\"\",\"[1,\"\"2\"\",[3]]\",\"{\"\"d\"\":null}\"\r\n",
+            5,
         ),
         (
             RAW_CSV,
             document,
             "x\ty,\"[1,\"\"2\"\",[3]]\",\"{\"\"d\"\":null}\"\r\n",
+            5,
         ),
-        (TABS, r#"{"b":[7],"a":""}"#, "\"\"\t7\t\n"),
-        (RAW_TABS, r#"{"b":["7"],"a":""}"#, "\t7\t\n"),
+        (TABS, r#"{"b":[7],"a":""}"#, "\"\"\t7\t\n", 2),
+        (RAW_TABS, r#"{"b":["7"],"a":""}"#, "\t7\t\n", 2),
+        (TABS, "[]", "\t\t\n", 0),
     ];
-    for (style, document, wanted) in table {
-        let row = row_of(rt.alloc(), style, &queries, document)?;
-        assert!(rt; row.as_str() == wanted, "{row}");
+    for (style, document, wanted, nodes) in table {
+        let (row, count) = row_of(rt.alloc(), style, &queries, document)?;
+        assert!(rt; row.as_str() == wanted && count == nodes, "{row}{count}");
     }
     Ok(())
 }

@@ -1,5 +1,5 @@
 -- Lines written one after another.
-use Rattle.std.proofs.Common.{◌≡◌, ℕ, Bool, true, false, ◌||◌, List, [], ◌∷◌, ◌++◌, Option, Result, Ok, Err, IfErr}
+use Rattle.std.proofs.Common.{◌≡◌, ℕ, Bool, List, [], ◌∷◌, ◌++◌, Option, Result, Ok, Err, IfErr}
 use Rattle.std.proofs.Common.{subst, refl, sym, ◌∙◌, ap, append_assoc, codes}
 use Rattle.std.proofs.lemmas.Grind.{flat_map-append}
 use Rattle.std.proofs.lemmas.List.{append-nil}
@@ -8,7 +8,6 @@ use Rattle.std.specs.Io.KnownBytes.{Appends}
 use Rattle.std.specs.List.{flat_map}
 use Rattle.std.specs.Result.{IsErrAnd}
 use Rattle.jp_document.specs.Node.{Node}
-use Rattle.jp_evaluate.specs.Nodelist.{has_node}
 use Rattle.jp_command.specs.Lines.{line_behind, text_in_line}
 use Rattle.jp_command.specs.Output.{AppendsPrefix, StopsWriting, WritesAll}
 use Rattle.jp_command.specs.Private.AsFound.{WritesGiven, WritesPart}
@@ -24,12 +23,6 @@ use Rattle.jp_command.proofs.Streams.{Appends-twice}
 pub line_alike : (lead : List ℕ) (form : Form) (n p : Node) → text_in_line form n ≡ text_in_line form p
     → line_behind lead form n ≡ line_behind lead form p
 line_alike lead form n p same = ap (λ t. lead ++ (t ++ codes "\n")) same
-
--- there is a node, where one was given now
-pub some_given : (some : Bool) (all rest more : List Node) (n : Node)
-    → (some || has_node rest) ≡ has_node all → rest ≡ n ∷ more → true ≡ has_node all
-some_given true all rest more n is given = is
-some_given false all rest more n is given = sym (ap has_node given) ∙ is
 
 -- o and p are the output before and now, and line_of is the line of each node
 module _ {W : Type 0} (contents : W → Option (List ℕ)) (has_failed : W → Bool)

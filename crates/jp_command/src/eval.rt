@@ -95,7 +95,7 @@ pub(crate) fn run_eval_keeping<R: Source, W: Writer>(
     }
 }
 
-/// Writes the lines of all nodes, as `write_selected` does, and does not answer whether there are any.
+/// Writes the lines of all nodes, as `write_selected` does, and does not answer how many there are.
 fn write_output<'d: 'q, 'q, V: Selectable + 'd, W: Writer>(
     alloc: Global,
     form: Form,

@@ -49,7 +49,7 @@ pub use help::CommandHelp;
 pub use input::chunk_buffer;
 pub use limits::{DOCUMENT_LIMIT, QUERY_LIMIT};
 pub use line::{refuse_words, report, run_line, status};
-pub use lines::{Form, Spare, selected_lines, write_selected};
+pub use lines::{Form, SelectedLines, Spare, selected_lines, write_selected};
 pub use output::write_all;
 pub use selecting::{Rooms, push_selected};
 pub use words::{is_set, profile_asked, query_command, with_flag};

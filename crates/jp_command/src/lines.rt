@@ -1,6 +1,6 @@
 //! Writing a line for each node.
 
-ghost use Rattle.std.specs.Prelude.{◌≡◌, ◌++◌, IfErr, IfOk, IfSome, OnOk, false, string_bytes};
+ghost use Rattle.std.specs.Prelude.{◌≡◌, ◌++◌, IfErr, IfOk, IfSome, OnOk, false, length, string_bytes};
 ghost use Rattle.std.specs.List.{flat_map};
 ghost use Rattle.jp_command.specs.Lines.{line_behind, line_of, output_behind};
 ghost use Rattle.jp_command.specs.Output.{StopsWriting, WritesAll};
@@ -10,7 +10,7 @@ ghost use Rattle.jp_command.specs.Private.Fronts.{ComesAlong, IsAlong, path_in_l
 ghost use Rattle.jp_command.specs.Private.Shown.{GivesShown, KeepsShown};
 ghost use Rattle.jp_command.specs.Selecting.{first_nodes};
 ghost use Rattle.jp_evaluate.specs.Lent.{given_node, has_failed, place_of, rest_of, steps_of};
-ghost use Rattle.jp_evaluate.specs.Nodelist.{has_node, nodelist};
+ghost use Rattle.jp_evaluate.specs.Nodelist.{nodelist};
 ghost use Rattle.jp_evaluate.specs.Stopping.{StopsSpent};
 ghost use Rattle.jp_select.specs.Steps.{Takes};
 ghost use Rattle.jp_tree.specs.Views.{query_of};
@@ -97,11 +97,20 @@ pub(crate) fn push_after_path<V: Selectable>(
     line.push('\n')
 }
 
+/// The lines of nodes, in memory.
+#[derive(Drop)]
+pub struct SelectedLines {
+    /// A line for each node.
+    pub text: String,
+    /// How many nodes there are.
+    pub count: u64,
+}
+
 /// The lines of the nodes that the query selects in the document whose value is the root, in the
-/// nodelist's order (RFC 9535 section 2.1.2), each behind the text `lead`: of all, or of as many as
-/// `most` says, with which the evaluation stops. The evaluation takes from `steps` those that it makes;
-/// what was read of the patterns is kept for the next document. The errors are that memory ran out and
-/// that the steps are used up.
+/// nodelist's order (RFC 9535 section 2.1.2), each behind the text `lead`, and how many there are: of all,
+/// or of as many as `most` says, with which the evaluation stops. The evaluation takes from `steps` those
+/// that it makes; what was read of the patterns is kept for the next document. The errors are that memory
+/// ran out, or that there are more nodes than 2^64 - 1, and that the steps are used up.
 #[tactic(auto, using(crate::proofs::Fronts::along_none))]
 pub fn selected_lines<'d: 'q, 'q, V: Selectable + 'd>(
     alloc: Global,
@@ -112,23 +121,25 @@ pub fn selected_lines<'d: 'q, 'q, V: Selectable + 'd>(
     query: &'q Checked,
     patterns: &mut Patterns,
     steps: &mut Steps,
-) -> Result<String, EvaluationFault>
-    ensures lines { IfOk result (λ lines. string_bytes lines
+) -> Result<SelectedLines, EvaluationFault>
+    ensures lines { IfOk result (λ lines. string_bytes lines.text
         ≡ flat_map (line_behind lead.now form)
         (first_nodes most (nodelist (query_of query.now.query) (V.meaning root)))) }
+    ensures count { IfOk result (λ lines. lines.count
+        ≡ length (first_nodes most (nodelist (query_of query.now.query) (V.meaning root)))) }
     ensures takes { Takes steps.old steps.new }
     ensures stopped { StopsSpent result steps.new }
 {
     let read = mem::replace(patterns, Patterns::new(alloc));
     let mut nodes = lent_nodes_with(alloc, root, query, &Marks, read, *steps);
-    let mut lines = String::new(alloc);
+    let mut text = String::new(alloc);
     let mut front = Front::new(alloc);
-    let pushed = push_rest(form, lead, most, &mut nodes, &mut front, &mut lines);
+    let pushed = push_rest(form, lead, most, &mut nodes, &mut front, &mut text);
     let (read, left) = nodes.into_parts();
     *patterns = read;
     *steps = left;
-    pushed?;
-    Ok(lines)
+    let count = pushed?;
+    Ok(SelectedLines { text, count })
 }
 
 /// Memory that goes from the lines of one document to those of the next.
@@ -152,9 +163,9 @@ impl Spare {
 
 /// Writes a line for each node that the query selects in the document whose value is the root, in
 /// the nodelist's order (RFC 9535 section 2.1.2), each behind the text `lead`; a node's line before
-/// the next node is looked for. Answers whether there is a node. `Write` says that the output failed,
-/// and `NoMemory` that memory ran out; after both a prefix of the lines is written. There are no other
-/// errors.
+/// the next node is looked for. Answers how many nodes there are. `Write` says that the output failed,
+/// and `NoMemory` that memory ran out, or that there are more nodes than 2^64 - 1; after both a prefix of
+/// the lines is written. There are no other errors.
 pub fn write_selected<'d: 'q, 'q, V: Selectable + 'd, W: Writer>(
     alloc: Global,
     form: Form,
@@ -163,15 +174,15 @@ pub fn write_selected<'d: 'q, 'q, V: Selectable + 'd, W: Writer>(
     query: &'q Checked,
     spare: &mut Spare,
     output: &mut W,
-) -> Result<bool, Fault>
+) -> Result<u64, Fault>
     ensures ok { OnOk result (WritesAll W.contents W.has_failed output.old output.new
         (output_behind lead.now form (query_of query.now.query) (V.meaning root))) }
     ensures stopped { IfErr result (StopsWriting W.contents W.has_failed output.old output.new
         (output_behind lead.now form (query_of query.now.query) (V.meaning root))) }
     ensures calls { GoesAs W.write_takes output.old output.new
         (output_behind lead.now form (query_of query.now.query) (V.meaning root)) result }
-    ensures some { IfOk result (λ some.
-        some ≡ has_node (nodelist (query_of query.now.query) (V.meaning root))) }
+    ensures count { IfOk result (λ count.
+        count ≡ length (nodelist (query_of query.now.query) (V.meaning root))) }
 {
     let patterns = mem::replace(&mut spare.patterns, Patterns::new(alloc));
     let mut nodes = lent_nodes_with(alloc, root, query, &Marks, patterns, Steps::unlimited());
@@ -180,7 +191,7 @@ pub fn write_selected<'d: 'q, 'q, V: Selectable + 'd, W: Writer>(
     written
 }
 
-/// Writes the line of each node before it asks for the next, and answers whether there is one. After a
+/// Writes the line of each node before it asks for the next, and answers how many there are. After a
 /// fault a prefix of the lines is written: those of the nodes that were given, the last of them perhaps
 /// in part or not at all.
 pub(crate) fn write_lines<'d: 'q, 'q, V: Selectable + 'd, W: Writer>(
@@ -190,7 +201,7 @@ pub(crate) fn write_lines<'d: 'q, 'q, V: Selectable + 'd, W: Writer>(
     nodes: &mut LentNodes<'d, 'q, V, Marks>,
     line: &mut String,
     output: &mut W,
-) -> Result<bool, Fault>
+) -> Result<u64, Fault>
     requires working { has_failed nodes.now ≡ false }
     requires unlimited { (steps_of nodes.now).limited ≡ false }
     ensures ok { OnOk result (WritesAll W.contents W.has_failed output.old output.new
@@ -201,21 +212,21 @@ pub(crate) fn write_lines<'d: 'q, 'q, V: Selectable + 'd, W: Writer>(
         (flat_map (line_behind lead.now form) (rest_of V.meaning nodes.old)) result }
     ensures as_found { WritesAsFound W.contents W.write_takes (line_behind lead.now form) V.meaning
         nodes.old nodes.new output.old output.new result }
-    ensures some { IfOk result (λ some. some ≡ has_node (rest_of V.meaning nodes.old)) }
+    ensures count { IfOk result (λ count. count ≡ length (rest_of V.meaning nodes.old)) }
 {
-    let mut some = false;
+    let mut count: u64 = 0;
     let mut front = Front::new(alloc);
     while let Some(next) = next_unlimited(form, nodes) {
         let value = next?;
+        count = count.checked_add(1).ok_or(AllocError)?;
         line.clear();
         line.push_str(lead)?;
         push_line(form, nodes, &mut front, value, line)?;
         let Ok(()) = write_all(output, line.as_bytes()) else {
             return Err(Fault::Write);
         };
-        some = true;
     }
-    Ok(some)
+    Ok(count)
 }
 
 /// The value of the next node, of which the evaluation keeps where it stands where the form shows a path.

@@ -1,6 +1,7 @@
 //! Lines of selected nodes behind a text, in memory that goes from one document to the next.
 
-ghost use Rattle.std.specs.Prelude.{◌≡◌, ◌-◌, ◌++◌, OnOk, [], drop, false, option_map, string_bytes};
+ghost use Rattle.std.specs.Prelude.{◌≡◌, ◌-◌, ◌++◌, IfOk, OnOk, [], drop, false, length, option_map};
+ghost use Rattle.std.specs.Prelude.{string_bytes};
 ghost use Rattle.std.specs.List.{flat_map};
 ghost use Rattle.jp_command.specs.Lines.{line_behind, lines_of};
 ghost use Rattle.jp_command.specs.Selecting.{first_nodes, nodes_behind};
@@ -19,7 +20,7 @@ use jp_evaluate::{EvaluationFault, Frame, LentNodes, Patterns, lent_nodes_in};
 use jp_lent::Selectable;
 use jp_match::Marks;
 use jp_select::Steps;
-use std::alloc::Global;
+use std::alloc::{AllocError, Global};
 use std::mem;
 
 /// Memory that goes from the nodes of one document to those of the next. What its lists and its text hold
@@ -84,7 +85,8 @@ fn push_behind<'d: 'q, 'q, V: Selectable + 'd>(
     ensures stopped { StopsSpent result (steps_of nodes.new) }
 {
     pass_over(nodes, from)?;
-    push_rest(form, "", most, nodes, front, lines)
+    push_rest(form, "", most, nodes, front, lines)?;
+    Ok(())
 }
 
 /// Passes over so many nodes, or over all where there are fewer.
@@ -111,6 +113,7 @@ fn pass_over<'d: 'q, 'q, V: Selectable + 'd>(
 }
 
 /// Appends the lines of the nodes that are still to come, of all or of so many, each behind the text `lead`.
+/// Answers how many there are.
 pub(crate) fn push_rest<'d: 'q, 'q, V: Selectable + 'd>(
     form: Form,
     lead: &str,
@@ -118,25 +121,28 @@ pub(crate) fn push_rest<'d: 'q, 'q, V: Selectable + 'd>(
     nodes: &mut LentNodes<'d, 'q, V, Marks>,
     front: &mut Front,
     lines: &mut String,
-) -> Result<(), EvaluationFault>
+) -> Result<u64, EvaluationFault>
     requires working { has_failed nodes.now ≡ false }
     requires front { IsAlong form front.now nodes.now }
     ensures lines { OnOk result (string_bytes lines.new ≡ string_bytes lines.old
         ++ flat_map (line_behind lead.now form) (first_nodes most (rest_of V.meaning nodes.old))) }
+    ensures count { IfOk result (λ count. count ≡ length (first_nodes most (rest_of V.meaning nodes.old))) }
     ensures takes { Takes (steps_of nodes.old) (steps_of nodes.new) }
     ensures stopped { StopsSpent result (steps_of nodes.new) }
 {
+    let mut count: u64 = 0;
     let mut left = most;
     while is_more(left) {
         let Some(next) = next_shown(form, nodes) else {
-            return Ok(());
+            return Ok(count);
         };
         let value = next?;
+        count = count.checked_add(1).ok_or(AllocError)?;
         lines.push_str(lead)?;
         push_line(form, nodes, front, value, lines)?;
         left = one_less(left);
     }
-    Ok(())
+    Ok(count)
 }
 
 /// Whether there is one more of so many, or of all.

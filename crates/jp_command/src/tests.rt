@@ -1,5 +1,6 @@
 //! The rows of the table, and what runs do at the limits and where reads and writes fail.
 
+mod counts;
 mod devices;
 mod explained;
 mod failures;

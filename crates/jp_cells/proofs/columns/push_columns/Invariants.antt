@@ -2,7 +2,7 @@ use Rattle.std.proofs.Common.{◌≡◌, ◌++◌, map, string_bytes, take}
 use Rattle.std.specs.List.{join_with_byte}
 use Rattle.jp_tree.specs.Views.{query_of}
 use Rattle.jp_select.specs.Steps.{Takes}
-use Rattle.jp_cells.specs.Columns.{cell_of, some_node_in}
+use Rattle.jp_cells.specs.Columns.{cell_of, nodes_in}
 use Rattle.jp_cells.specs.Fields.{field_text}
 use Rattle.jp_cells.specs.Rows.{separator}
 use Rattle.jp_cells.proofs.columns.push_columns.Given as goal
@@ -14,7 +14,7 @@ invariant-loop-column g l = record {
       ++ join_with_byte (separator l.style.format)
       (map (λ q. field_text l.style (cell_of l.style.raw (g.V.Lent.meaning l.root) q))
       (take l.column (map (λ c. query_of c.query) l.queries)));
-  selected : l.selected
-      ≡ some_node_in (g.V.Lent.meaning l.root) (take l.column (map (λ c. query_of c.query) l.queries));
+  count : l.count
+      ≡ nodes_in (g.V.Lent.meaning l.root) (take l.column (map (λ c. query_of c.query) l.queries));
   taken : Takes l.fn.steps l.steps;
 }

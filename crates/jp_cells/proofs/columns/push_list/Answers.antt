@@ -13,5 +13,5 @@ returns-clause-cell g c =
     ≡ string_bytes c.push_others.new.cell ++ closing_bracket ∷ [] = search rules in
     list-pushed (g.V.Lent.meaning c.args.first) (g.V.Lent.meaning c.args.second)
     (values_in (rest_of g.V.Lent.meaning c.args.nodes.now)) _ _ _ _ _ _ opened
-    c.in_ok-push_value.ensures.ok c.in_ok-push_behind_comma.ensures c.in_ok-push_others.ensures.cell
+    c.in_ok-push_value.ensures.ok c.in_ok-push_behind_comma.ensures c.in_ok-others.ensures.cell
     closed

@@ -1,4 +1,4 @@
-use Rattle.std.proofs.Common.{◌≡◌, ◌++◌, false, length, string_bytes}
+use Rattle.std.proofs.Common.{◌≡◌, ◌+◌, ◌++◌, false, length, string_bytes}
 use Rattle.std.specs.List.{flat_map}
 use Rattle.jp_select.specs.Steps.{Takes}
 use Rattle.jp_evaluate.specs.Lent.{has_failed, rest_of, steps_of}
@@ -13,6 +13,8 @@ invariant-loop-next g l = record {
   all : string_bytes l.cell ++ flat_map behind_comma (values_in (rest_of g.V.Lent.meaning l.nodes))
       ≡ string_bytes l.fn.cell
       ++ flat_map behind_comma (values_in (rest_of g.V.Lent.meaning l.fn.nodes));
+  count : l.count + length (rest_of g.V.Lent.meaning l.nodes)
+      ≡ length (rest_of g.V.Lent.meaning l.fn.nodes);
   taken : Takes (steps_of l.fn.nodes) (steps_of l.nodes);
 }
 

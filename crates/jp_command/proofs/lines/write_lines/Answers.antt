@@ -1,9 +1,9 @@
-use Rattle.std.proofs.Common.{◌≡◌, ◌∙◌, refl, rules, sym}
-use Rattle.jp_evaluate.specs.Lent.{given_node, rest_of}
+use Rattle.std.proofs.Common.{◌≡◌, ◌+◌, ◌∙◌, ap, arith, length, rules, sym}
+use Rattle.jp_evaluate.specs.Lent.{given_node}
 use Rattle.jp_command.specs.Lines.{line_behind}
 use Rattle.jp_command.proofs.Fronts.{along_none, comes_along}
 use Rattle.jp_command.proofs.LineLemmas.{given_more, given_none, given_part, goes-for_memory, line_alike}
-use Rattle.jp_command.proofs.LineLemmas.{part-goes, part-is_prefix, some_given, stops-for_memory}
+use Rattle.jp_command.proofs.LineLemmas.{part-goes, part-is_prefix, stops-for_memory}
 use Rattle.jp_command.proofs.lines.write_lines.Goals as goal
 
 pub loop-next-init : goal.loop-next-init
@@ -14,7 +14,7 @@ loop-next-init g c = record {
   unlimited = search rules;
   written = given_none g.W.Writer.contents g.W.Writer.has_failed g.W.Writer.write_takes
       (line_behind c.args.lead.now c.args.form) _ _;
-  some = refl;
+  count = omega arith;
   works = search rules;
 }
 
@@ -93,6 +93,7 @@ loop-next-preserved g c =
     ≡ behind (given_node g.V.Lent.meaning c.next_unlimited.new.nodes c.in_ok-value.value) =
     search rules in
     let line = shown ∙ sym (line_alike c.args.lead.now c.args.form n _ given.4) in
+    let next : c.in_ok-count.count ≡ c.loop-next.count + 1 = search rules in
     record {
       front = search rules;
       working = given.2;
@@ -100,7 +101,6 @@ loop-next-preserved g c =
       written = given_more g.W.Writer.contents g.W.Writer.has_failed g.W.Writer.write_takes behind _ _ _ n _ _ _
           c.loop-next.invariant.written given.3 (rw line at c.in-Ok.ensures.ok)
           (rw line at c.in-Ok.ensures.calls);
-      some = some_given c.loop-next.some (rest_of g.V.Lent.meaning c.args.nodes.now) _ _ n
-          c.loop-next.invariant.some given.3;
+      count = omega (arith, next, c.loop-next.invariant.count, ap length given.3);
       works = search rules;
     }

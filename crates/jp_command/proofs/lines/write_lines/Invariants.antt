@@ -1,6 +1,5 @@
-use Rattle.std.proofs.Common.{◌≡◌, ◌||◌, false, length}
+use Rattle.std.proofs.Common.{◌≡◌, ◌+◌, false, length}
 use Rattle.jp_evaluate.specs.Lent.{has_failed, rest_of, steps_of}
-use Rattle.jp_evaluate.specs.Nodelist.{has_node}
 use Rattle.jp_command.specs.Lines.{line_behind}
 use Rattle.jp_command.specs.Private.AsFound.{WritesGiven}
 use Rattle.jp_command.specs.Private.Fronts.{IsAlong}
@@ -14,8 +13,8 @@ invariant-loop-next g l = record {
   unlimited : (steps_of l.nodes).limited ≡ false;
   written : WritesGiven g.W.Writer.contents g.W.Writer.write_takes (line_behind l.lead l.form) (rest_of g.V.Lent.meaning l.fn.nodes) (rest_of g.V.Lent.meaning l.nodes)
       l.fn.output l.output;
-  some : l.some || has_node (rest_of g.V.Lent.meaning l.nodes)
-      ≡ has_node (rest_of g.V.Lent.meaning l.fn.nodes);
+  count : l.count + length (rest_of g.V.Lent.meaning l.nodes)
+      ≡ length (rest_of g.V.Lent.meaning l.fn.nodes);
   works : g.W.Writer.has_failed l.output ≡ g.W.Writer.has_failed l.fn.output;
 }
 

@@ -1,4 +1,4 @@
-use Rattle.std.proofs.Common.{◌≡◌, ◌∷◌, ◌++◌, ◌∙◌, ap, append_assoc, rules, string_bytes, sym, true}
+use Rattle.std.proofs.Common.{◌≡◌, ◌+◌, ◌∷◌, ◌++◌, ◌∙◌, ap, append_assoc, arith, length, rules, string_bytes, sym, true}
 use Rattle.std.specs.List.{flat_map}
 use Rattle.jp_evaluate.specs.Lent.{rest_of, given_node}
 use Rattle.jp_select.proofs.Stepping.{takes_then}
@@ -36,6 +36,7 @@ loop-form-preserved g c =
     ≡ first_nodes left (n ∷ rest c.next_shown.new.nodes) =
     ap (λ o. n ∷ first_nodes o (rest c.next_shown.new.nodes)) c.one_less-left.ensures
     ∙ sym (first_more left n (rest c.next_shown.new.nodes) more) in
+    let next : c.in_ok-count.count ≡ c.loop-form.count + 1 = search rules in
     record {
       front = search rules;
       working = given.2;
@@ -44,5 +45,11 @@ loop-form-preserved g c =
           ∙ ap (λ ns. old ++ flat_map behind ns) asked
           ∙ ap (λ ns. old ++ flat_map behind (first_nodes left ns)) (sym given.3)
           ∙ c.loop-form.invariant.all;
+      count = omega (
+        arith,
+        next,
+        c.loop-form.invariant.count,
+        ap length (asked ∙ ap (first_nodes left) (sym given.3)),
+      );
       taken = takes_then c.loop-form.invariant.taken c.next_shown.ensures.takes;
     }
