@@ -10,3 +10,7 @@ carried device = device.inner
 -- whether a call of it failed
 abbrev pub carrier_failed : {T : Type 0} → Device T → Bool
 carrier_failed device = device.failed
+
+-- whether a write or a flush of it failed because its reader hung up
+abbrev pub carrier_hung_up : {T : Type 0} → Device T → Bool
+carrier_hung_up device = device.hung_up

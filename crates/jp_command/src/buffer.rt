@@ -2,7 +2,7 @@
 
 ghost use Rattle.std.specs.Prelude.{◌≡◌, [], IfOk, false};
 ghost use Rattle.std.specs.Io.Buffered.{writer_buffer, writer_inner};
-ghost use Rattle.jp_command.specs.Device.{carried, carrier_failed};
+ghost use Rattle.jp_command.specs.Device.{carried, carrier_failed, carrier_hung_up};
 
 use crate::device::Device;
 use std::alloc::Global;
@@ -16,6 +16,7 @@ pub fn buffered<W: Write + Drop>(alloc: Global, writer: W) -> Result<Device<BufW
     ensures carries { IfOk result (λ device. writer_inner (carried device) ≡ writer) }
     ensures empty { IfOk result (λ device. writer_buffer (carried device) ≡ []) }
     ensures fresh { IfOk result (λ device. carrier_failed device ≡ false) }
+    ensures reader { IfOk result (λ device. carrier_hung_up device ≡ false) }
 {
     Ok(Device::new(BufWriter::with_capacity(alloc, OUTPUT_BUFFER, writer)?))
 }

@@ -1,12 +1,13 @@
 //! Where the bytes come from and where they go.
 
-ghost use Rattle.std.specs.Prelude.{◌≡◌, ℕ, ◌<◌, ◌≤◌, Bool, List, [], Option, true, false, IfOk, IsErr};
+ghost use Rattle.std.specs.Prelude.{◌≡◌, ◌≢◌, ℕ, ◌<◌, ◌≤◌, Bool, List, [], Option, true, false, IfOk, IsErr};
 ghost use Rattle.std.specs.Prelude.{OnOk, OnErr, Some, None, length, ⊤};
 ghost use Rattle.std.specs.Io.KnownBytes.{ReadConsumes, WriteAppends, Keeps};
-ghost use Rattle.jp_command.specs.Device.{carried, carrier_failed};
+ghost use Rattle.std.specs.IoError.{error_kind};
+ghost use Rattle.jp_command.specs.Device.{carried, carrier_failed, carrier_hung_up};
 ghost use Rattle.jp_command.specs.Reads.{bytes_moved};
 
-use std::io::{Read, Write};
+use std::io::{Error, ErrorKind, Read, Write};
 
 /// A read, a write or a flush that failed.
 #[derive(Debug, Clone, Copy, PartialEq, Eq)]
@@ -50,6 +51,9 @@ pub trait Writer {
     // contract can speak of each call. A flush takes none.
     ghost write_takes: { Self → Option (List ℕ) → Self → Type 0 } = { λ _ _ _. ⊤ };
 
+    // Whether a call failed because what reads the bytes hung up, where that is told.
+    ghost hung_up: { Self → Bool } = { λ _. false };
+
     /// Writes some bytes from the start of `bytes` and answers how many, at least one if there are
     /// any. `Failed` where none can be written.
     fn write(&mut self, bytes: &[u8]) -> Result<usize, Failed>
@@ -58,11 +62,16 @@ pub trait Writer {
         ensures bytes { WriteAppends (contents self.old) (contents self.new) result bytes.now }
         ensures works { OnOk result (has_failed self.new ≡ has_failed self.old) }
         ensures fails { OnErr result (has_failed self.new ≡ true) }
-        ensures call { write_takes self.old (bytes_moved result bytes.now) self.new };
+        ensures call { write_takes self.old (bytes_moved result bytes.now) self.new }
+        ensures reader { OnOk result (hung_up self.new ≡ hung_up self.old) };
 
     /// Whether a call failed.
     fn failed(&self) -> bool
         ensures { result ≡ has_failed self.now };
+
+    /// Whether a call failed because what reads the bytes hung up, as `head` does once it has its lines.
+    fn hung_up(&self) -> bool
+        ensures { result ≡ hung_up self.now };
 }
 
 /// What bytes are written to and handed on from. Only the whole program flushes (`run_line`); a run
@@ -74,15 +83,18 @@ pub trait Output: Writer {
         ensures works { OnOk result (Self.has_failed self.new ≡ Self.has_failed self.old) }
         ensures fails { OnErr result (Self.has_failed self.new ≡ true) }
         ensures done { OnOk result (Self.write_takes self.old (Some []) self.new) }
-        ensures stopped { OnErr result (Self.write_takes self.old None self.new) };
+        ensures stopped { OnErr result (Self.write_takes self.old None self.new) }
+        ensures reader { OnOk result (Self.hung_up self.new ≡ Self.hung_up self.old) };
 }
 
-/// Carries any reader or writer of std and keeps whether a call of it failed. A write that takes
-/// none of the bytes it is given fails.
+/// Carries any reader or writer of std and keeps whether a call of it failed, and whether a write or a
+/// flush failed because its reader hung up (`ErrorKind::BrokenPipe`). A write that takes none of the bytes
+/// it is given fails.
 #[derive(Drop)]
 pub struct Device<T> {
     inner: T,
     failed: bool,
+    hung_up: bool,
 }
 
 impl<T> Device<T> {
@@ -90,10 +102,12 @@ impl<T> Device<T> {
     pub fn new(inner: T) -> Device<T>
         ensures carries { carried result ≡ inner }
         ensures fresh { carrier_failed result ≡ false }
+        ensures reader { carrier_hung_up result ≡ false }
     {
         Device {
             inner,
             failed: false,
+            hung_up: false,
         }
     }
 
@@ -107,11 +121,27 @@ impl<T> Device<T> {
     /// Keeps that a call failed.
     fn fail<X>(&mut self) -> Result<X, Failed>
         ensures failed { carrier_failed self.new ≡ true }
+        ensures reader { carrier_hung_up self.new ≡ carrier_hung_up self.old }
         ensures same { carried self.new ≡ carried self.old }
         ensures answer { IsErr result }
     {
         self.failed = true;
         Err(Failed)
+    }
+
+    /// Keeps that a write or a flush failed with this error.
+    fn fail_by<X>(&mut self, error: &Error) -> Result<X, Failed>
+        ensures failed { carrier_failed self.new ≡ true }
+        ensures hung_up { error_kind error.now ≡ ErrorKind.BrokenPipe → carrier_hung_up self.new ≡ true }
+        ensures others { error_kind error.now ≢ ErrorKind.BrokenPipe
+            → carrier_hung_up self.new ≡ carrier_hung_up self.old }
+        ensures same { carried self.new ≡ carried self.old }
+        ensures answer { IsErr result }
+    {
+        if error.kind() == ErrorKind::BrokenPipe {
+            self.hung_up = true;
+        }
+        self.fail()
     }
 }
 
@@ -137,15 +167,22 @@ impl<T: Write> Writer for Device<T> {
 
     ghost has_failed = { carrier_failed };
 
+    ghost hung_up = { carrier_hung_up };
+
     fn write(&mut self, bytes: &[u8]) -> Result<usize, Failed> {
         match self.inner.write(bytes) {
             Ok(count) if count > 0 || bytes.is_empty() => Ok(count),
-            _ => self.fail(),
+            Ok(_) => self.fail(),
+            Err(error) => self.fail_by(&error),
         }
     }
 
     fn failed(&self) -> bool {
         self.failed
+    }
+
+    fn hung_up(&self) -> bool {
+        self.hung_up
     }
 }
 
@@ -153,7 +190,7 @@ impl<T: Write> Output for Device<T> {
     fn flush(&mut self) -> Result<(), Failed> {
         match self.inner.flush() {
             Ok(()) => Ok(()),
-            Err(_) => self.fail(),
+            Err(error) => self.fail_by(&error),
         }
     }
 }

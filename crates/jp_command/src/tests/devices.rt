@@ -124,6 +124,20 @@ impl Write for Drip {
     }
 }
 
+/// Each write and each flush fails with an error of this kind.
+#[derive(Drop)]
+pub struct Refusing(pub ErrorKind);
+
+impl Write for Refusing {
+    fn write(&mut self, _bytes: &[u8]) -> Result<usize> {
+        Err(Error::from(self.0))
+    }
+
+    fn flush(&mut self) -> Result<()> {
+        Err(Error::from(self.0))
+    }
+}
+
 /// Takes so many bytes, a few at a time, and then fails; a flush may fail too.
 #[derive(Drop)]
 pub struct Narrow {

@@ -1,12 +1,13 @@
 //! Runs over devices that fail at one call.
 
-use super::devices::{Blanks, Drip, Narrow, Trickle};
+use super::devices::{Blanks, Drip, Narrow, Refusing, Trickle};
 use super::table::names::{IN_QUOTES, NAMES};
 use super::texts::nested;
-use crate::{Device, Fault, Form, Source, Writer, run_canon, run_check, run_eval};
+use crate::{Device, Failed, Fault, Form, Output, Source, Writer, run_canon, run_check, run_eval};
 use jp_check::Profile::Standard;
 use jp_query::{Refusal, RefusalKind};
 use std::alloc::Global;
+use std::io::ErrorKind;
 use std::process::Abort;
 use std::test::Fail;
 
@@ -48,6 +49,33 @@ fn assert_writes(rt: &impl Abort, alloc: Global, taken: usize, takes_none: bool)
     let writes = taken.saturating_add(usize::from(!whole));
     let reads = NAMES.len().saturating_add(1);
     assert_eq!(rt; (drip.calls, trickle.calls), (writes, reads));
+}
+
+#[test]
+fn tells_readers_that_hang_up_from_other_failures(rt: HostRuntime) {
+    let kinds = [
+        (ErrorKind::BrokenPipe, true),
+        (ErrorKind::ConnectionReset, false),
+        (ErrorKind::StorageFull, false),
+    ];
+    for (kind, hangs_up) in kinds {
+        let mut writing = Device::new(Refusing(kind));
+        let mut flushing = Device::new(Refusing(kind));
+        assert!(rt; !writing.hung_up());
+        let answers = (writing.write(b"1"), flushing.flush());
+        assert_eq!(rt; answers, (Err(Failed), Err(Failed)));
+        assert_eq!(rt; (writing.failed(), flushing.failed()), (true, true));
+        assert_eq!(rt;
+            (writing.hung_up(), flushing.hung_up()),
+            (hangs_up, hangs_up)
+        );
+    }
+    let mut drip = Drip::new(rt.alloc(), 1);
+    drip.failing = 1;
+    drip.takes_none = true;
+    let mut output = Device::new(&mut drip);
+    assert_eq!(rt; output.write(b"1"), Err(Failed));
+    assert_eq!(rt; (output.failed(), output.hung_up()), (true, false));
 }
 
 #[test]

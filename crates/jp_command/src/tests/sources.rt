@@ -104,6 +104,10 @@ impl Writer for CountedWriter {
     fn failed(&self) -> bool {
         self.failed
     }
+
+    fn hung_up(&self) -> bool {
+        false
+    }
 }
 
 #[test]
