@@ -9,18 +9,17 @@ ghost use Rattle.jp_select.specs.Steps.{Takes};
 ghost use Rattle.jp_evaluate.specs.Lent.{has_failed, rest_of, steps_of};
 ghost use Rattle.jp_evaluate.specs.Nodelist.{nodelist};
 ghost use Rattle.jp_evaluate.specs.Stopping.{StopsSpent};
-ghost use Rattle.jp_cells.specs.Cells.{cell_text, values_in};
+ghost use Rattle.jp_cells.specs.Cells.{cell_text, text_alone, values_in};
 ghost use Rattle.jp_cells.specs.Columns.{cell_of, columns_text, nodes_in};
 ghost use Rattle.jp_cells.specs.Fields.{field_text};
 ghost use Rattle.jp_cells.specs.Private.Lists.{behind_comma};
 
-use crate::cell::push_alone;
 use crate::field::push_field;
 use crate::row::{end_row, push_separator};
 use crate::style::Style;
 use jp_check::Checked;
 use jp_evaluate::{EvaluationFault, Frame, LentNodes, Patterns, lent_nodes_in};
-use jp_lent::{Selectable, push_value};
+use jp_lent::{Selectable, push_raw, push_value};
 use jp_match::Marks;
 use jp_select::Steps;
 use std::alloc::{AllocError, Global};
@@ -130,6 +129,22 @@ fn push_cell<'d: 'q, 'q, V: Selectable + 'd>(
             Ok(1)
         }
         Some(second) => push_list(first, second?, nodes, cell),
+    }
+}
+
+/// Appends the text of a cell in which this value stands alone.
+fn push_alone<'d, V: Selectable + 'd>(
+    raw: bool,
+    value: V,
+    cell: &mut String,
+) -> Result<(), AllocError>
+    ensures { OnOk result (string_bytes cell.new
+        ≡ string_bytes cell.old ++ text_alone raw (V.meaning value)) }
+{
+    if raw {
+        push_raw(cell, value)
+    } else {
+        push_value(cell, value)
     }
 }
 

@@ -1,8 +1,8 @@
 //! Cells and rows: what queries select in a document, as a line of a table.
 //!
 //! A cell shows the values that one query selects, a row the cells of several queries, between tabs or
-//! as CSV (RFC 4180). `push_alone` and `push_field` make a cell, and `push_separator` and `end_row`
-//! put a row together; `push_row` does all of that with texts that are there:
+//! as CSV (RFC 4180). `push_columns` makes the row of a document. `push_field` makes a cell, and
+//! `push_separator` and `end_row` put a row together; `push_row` does all of that with texts that are there:
 //!
 //! ```text
 //! let style = Style { format: Format::Csv, raw: true };
@@ -13,7 +13,6 @@
 //! `specs/Rows.antt` what a row is.
 #![tactic(auto)]
 
-mod cell;
 mod columns;
 mod field;
 mod row;
@@ -21,7 +20,6 @@ mod style;
 #[cfg(test)]
 mod tests;
 
-pub use cell::push_alone;
 pub use columns::{Room, push_columns};
 pub use field::push_field;
 pub use row::{end_row, push_row, push_separator};

@@ -13,6 +13,6 @@ pub enum Format {
 #[derive(Debug, Clone, Copy, PartialEq, Eq)]
 pub struct Style {
     pub format: Format,
-    /// Whether a text that stands alone in a cell is shown by its characters.
+    /// Whether a string that stands alone in a cell is written by its characters.
     pub raw: bool,
 }

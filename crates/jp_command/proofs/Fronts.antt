@@ -16,7 +16,7 @@ use Rattle.jp_command.specs.Private.Fronts.{ComesAlong, Follows, HasPathText, Is
 use Rattle.jp_command.specs.Private.Shown.{KeepsShown}
 use Rattle.jp_command.specs.declared.front.Front.{Front}
 use Rattle.jp_command.specs.declared.lines.Form.{Form}
-use Rattle.jp_command.specs.declared.lines.Form.TheVariants.{Values, Paths, Both}
+use Rattle.jp_command.specs.declared.lines.Form.TheVariants.{Values, Paths, Both, RawValues, RawBoth}
 
 -- what was spelled is still there where it is kept
 pub comes : {V M : Type 0} (f : Front) (v w : LentNodes V M) → HasPathText f v → KeepsWay v w → Follows f w
@@ -79,9 +79,13 @@ pub comes_along : {V M : Type 0} (form : Form) (f : Front) (v w : LentNodes V M)
 comes_along Values f v w along keeps = tt
 comes_along Paths f v w along keeps = comes f v w along keeps
 comes_along Both f v w along keeps = comes f v w along keeps
+comes_along RawValues f v w along keeps = tt
+comes_along RawBoth f v w along keeps = comes f v w along keeps
 
 pub along_none : {V M : Type 0} (form : Form) (f : Front) (v : LentNodes V M) → f.count ≡ 0
     → string_bytes f.text ≡ [] → IsAlong form f v
 along_none Values f v none empty = tt
 along_none Paths f v none empty = has_none f v none empty
 along_none Both f v none empty = has_none f v none empty
+along_none RawValues f v none empty = tt
+along_none RawBoth f v none empty = has_none f v none empty

@@ -76,8 +76,8 @@ fn push_path_alone(form: Form, location: &[Step<'_>], line: &mut String) -> Resu
         ++ path_in_line form (map step_of location.now)) }
 {
     match form {
-        Form::Values => Ok(()),
-        Form::Paths | Form::Both => push_path(line, location),
+        Form::Values | Form::RawValues => Ok(()),
+        Form::Paths | Form::Both | Form::RawBoth => push_path(line, location),
     }
 }
 

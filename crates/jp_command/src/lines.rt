@@ -22,7 +22,7 @@ use crate::output::write_all;
 use crate::selecting::push_rest;
 use jp_check::Checked;
 use jp_evaluate::{EvaluationFault, LentNodes, Patterns, lent_nodes_with};
-use jp_lent::{Selectable, push_value};
+use jp_lent::{Selectable, push_raw, push_value};
 use jp_match::Marks;
 use jp_select::Steps;
 use std::alloc::{AllocError, Global};
@@ -37,6 +37,10 @@ pub enum Form {
     Paths,
     /// The normalized path, a tab and the compact text of the value.
     Both,
+    /// The value: a string by its characters, any other by its compact text.
+    RawValues,
+    /// The normalized path, a tab and the value as in `RawValues`.
+    RawBoth,
 }
 
 /// Appends the line of the node that was given last, with this value. After an error nothing is said of the front.
@@ -71,8 +75,8 @@ fn push_front<'d: 'q, 'q, V: Selectable + 'd>(
         ++ path_in_line form (place_of nodes.now)) }
 {
     match form {
-        Form::Values => Ok(()),
-        Form::Paths | Form::Both => front.push_path(nodes, line),
+        Form::Values | Form::RawValues => Ok(()),
+        Form::Paths | Form::Both | Form::RawBoth => front.push_path(nodes, line),
     }
 }
 
@@ -92,6 +96,11 @@ pub(crate) fn push_after_path<V: Selectable>(
         Form::Both => {
             line.push('\t')?;
             push_value(line, value)?;
+        }
+        Form::RawValues => push_raw(line, value)?,
+        Form::RawBoth => {
+            line.push('\t')?;
+            push_raw(line, value)?;
         }
     }
     line.push('\n')
@@ -240,8 +249,8 @@ pub(crate) fn next_shown<'d: 'q, 'q, V: Selectable + 'd>(
     ensures stopped { IfSome result (λ r. StopsSpent r (steps_of nodes.new)) }
 {
     match form {
-        Form::Values => nodes.next_value(),
-        Form::Paths | Form::Both => nodes.next_placed(),
+        Form::Values | Form::RawValues => nodes.next_value(),
+        Form::Paths | Form::Both | Form::RawBoth => nodes.next_placed(),
     }
 }
 

@@ -8,6 +8,7 @@ mod forms;
 mod found;
 mod limits;
 mod prefixes;
+mod raw;
 mod rows;
 mod sources;
 mod statuses;

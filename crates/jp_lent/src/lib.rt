@@ -20,9 +20,11 @@ mod document_form;
 mod json_form;
 mod lent;
 mod printing;
+mod raw;
 mod seen;
 
 pub use copying::json_of;
 pub use lent::{Lent, Selectable};
 pub use printing::{push_value, value_text};
+pub use raw::push_raw;
 pub use seen::Seen;

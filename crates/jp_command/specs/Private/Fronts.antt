@@ -8,9 +8,10 @@ use Rattle.jp_document.specs.Value.{Value}
 use Rattle.jp_document.specs.declared.location.Step.{Step}
 use Rattle.jp_evaluate.specs.Lent.{kept_of, location_of, way_of}
 use Rattle.jp_evaluate.specs.declared.lent.LentNodes.{LentNodes}
+use Rattle.jp_lent.specs.Raw.{raw_text}
 use Rattle.jp_command.specs.declared.front.Front.{Front}
 use Rattle.jp_command.specs.declared.lines.Form.{Form}
-use Rattle.jp_command.specs.declared.lines.Form.TheVariants.{Values, Paths, Both}
+use Rattle.jp_command.specs.declared.lines.Form.TheVariants.{Values, Paths, Both, RawValues, RawBoth}
 
 -- what a normalized path has for the steps of a way
 abbrev pub way_text : List (Option Step) → List ℕ
@@ -29,20 +30,28 @@ abbrev pub IsAlong : {V M : Type 0} → Form → Front → LentNodes V M → Typ
 IsAlong Values f v = ⊤
 IsAlong Paths f v = HasPathText f v
 IsAlong Both f v = HasPathText f v
+IsAlong RawValues f v = ⊤
+IsAlong RawBoth f v = HasPathText f v
 
 abbrev pub ComesAlong : {V M : Type 0} → Form → Front → LentNodes V M → Type 0
 ComesAlong Values f v = ⊤
 ComesAlong Paths f v = Follows f v
 ComesAlong Both f v = Follows f v
+ComesAlong RawValues f v = ⊤
+ComesAlong RawBoth f v = Follows f v
 
 -- the path that the line of a node has, if it has one
 abbrev pub path_in_line : Form → Location → List ℕ
 path_in_line Values l = []
 path_in_line Paths l = path_of l
 path_in_line Both l = path_of l
+path_in_line RawValues l = []
+path_in_line RawBoth l = path_of l
 
 -- what the line of a node with that value has behind the path
 abbrev pub text_after_path : Form → Value → List ℕ
 text_after_path Values v = text_of v ++ codes "\n"
 text_after_path Paths v = codes "\n"
 text_after_path Both v = codes "\t" ++ text_of v ++ codes "\n"
+text_after_path RawValues v = raw_text v ++ codes "\n"
+text_after_path RawBoth v = codes "\t" ++ raw_text v ++ codes "\n"

@@ -6,7 +6,7 @@ use Rattle.jp_evaluate.specs.Lent.{KeepsWay, has_failed, rest_of, given_node}
 use Rattle.jp_evaluate.specs.declared.lent.LentNodes.{LentNodes}
 use Rattle.jp_command.specs.Lines.{text_in_line}
 use Rattle.jp_command.specs.declared.lines.Form.{Form}
-use Rattle.jp_command.specs.declared.lines.Form.TheVariants.{Values, Paths, Both}
+use Rattle.jp_command.specs.declared.lines.Form.TheVariants.{Values, Paths, Both, RawValues, RawBoth}
 
 -- what one call gives, as `GivesNextAs` says it, but that of the node no more is told than its value, and
 -- what its line has in that form, which is what the node has that was given last
@@ -25,3 +25,5 @@ abbrev pub KeepsShown : {V M : Type 0} → Form → LentNodes V M → LentNodes 
 KeepsShown Values v w = ⊤
 KeepsShown Paths v w = KeepsWay v w
 KeepsShown Both v w = KeepsWay v w
+KeepsShown RawValues v w = ⊤
+KeepsShown RawBoth v w = KeepsWay v w
