@@ -1,6 +1,6 @@
 -- What paths begin with, value by value on the way.
 use Rattle.std.proofs.Common.{◌≡◌, ℕ, zero, suc, ◌+◌, ◌<◌, ◌≤◌, List, [], ◌∷◌, ◌++◌, Option, Some, None}
-use Rattle.std.proofs.Common.{take, length, map, refl, ap, ap₂, sym, ◌∙◌, arith, string_bytes}
+use Rattle.std.proofs.Common.{take, refl, ap, ap₂, sym, ◌∙◌, arith, string_bytes}
 use Rattle.std.proofs.Common.{inl, inr, subst}
 use Rattle.std.proofs.lemmas.Bool.{cases_lt}
 use Rattle.std.proofs.lemmas.Grind.{flat_map-append}

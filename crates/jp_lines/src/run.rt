@@ -1,6 +1,6 @@
 //! A run over the lines of an input.
 
-ghost use Rattle.std.specs.Prelude.{◌≡◌, map};
+ghost use Rattle.std.specs.Prelude.{map};
 ghost use Rattle.jp_check.specs.declared.profile.Profile.{Profile};
 ghost use Rattle.jp_tree.specs.Views.{expr_of, query_of};
 ghost use Rattle.jp_lines.specs.Private.Answers.{HasNamedLocation};
