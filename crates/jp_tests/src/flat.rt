@@ -2,4 +2,5 @@
 
 mod documents;
 mod locations;
+mod scattered_names;
 mod values;
