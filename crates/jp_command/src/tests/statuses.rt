@@ -287,27 +287,18 @@ fn keeps_its_status_where_its_line_cannot_be_written(rt: HostRuntime) -> Result<
     Ok(())
 }
 
-/// The status of a program whose run answered this, and what is told of it.
-fn exit_of(alloc: Global, answer: IoResult<u8>) -> (u8, Vec<u8>) {
+/// Asserts that a program whose run answered this ends with this status, and tells this.
+fn assert_exit(rt: &impl Abort, alloc: Global, answer: IoResult<u8>, status: u8, line: &str) {
     let mut told = Vec::new(alloc);
-    let status = exit_status(alloc, answer, &mut Device::new(&mut told));
-    (status, told)
+    let ended = exit_status(alloc, answer, &mut Device::new(&mut told));
+    assert_eq!(rt; (ended, told.as_slice()), (status, line.as_bytes()));
 }
 
 #[test]
-fn the_status_of_a_program_that_cannot_begin(rt: HostRuntime) -> Result<(), Fail> {
+fn the_status_of_a_program_that_cannot_begin(rt: HostRuntime) {
     let alloc = rt.alloc();
-    for (answer, status, line) in [
-        (Ok(3), 3, ""),
-        (Err(ErrorKind::OutOfMemory), 4, "want of memory\n"),
-        (Err(ErrorKind::InvalidInput), 2, ""),
-    ] {
-        let answer = match answer {
-            Ok(status) => Ok(status),
-            Err(kind) => Err(Error::from(kind)),
-        };
-        let (ended, told) = exit_of(alloc, answer);
-        assert_eq!(rt; (ended, told.as_slice()), (status, line.as_bytes()));
-    }
-    Ok(())
+    assert_exit(&rt, alloc, Ok(3), 3, "");
+    let exhausted = Err(Error::from(ErrorKind::OutOfMemory));
+    assert_exit(&rt, alloc, exhausted, 4, "want of memory\n");
+    assert_exit(&rt, alloc, Err(Error::from(ErrorKind::InvalidInput)), 2, "");
 }
