@@ -4,10 +4,12 @@ use lib.Utf8.{encode}
 use Rattle.jp_document.specs.Location.{Step, Location, named, nth}
 use Rattle.jp_document.specs.Node.{location_of}
 use Rattle.jp_document.specs.Value.{Value, null, list, object, no_items, item, no_members, member}
-use Rattle.jp_tree.specs.Tree.{ExprTree, QueryTree, SegmentTree, all_of, any_of}
+use Rattle.jp_tree.specs.Tree.{CallTree, ExprTree, QueryTree, SegmentTree, all_of, any_of}
+use Rattle.jp_tree.specs.Tree.{argument_then, call, call_argument, call_test, call_value}
 use Rattle.jp_tree.specs.Tree.{comparison, exists, exprs, filter, index, literal}
-use Rattle.jp_tree.specs.Tree.{name, negation, no_segments, node_value, null_literal}
-use Rattle.jp_tree.specs.Tree.{query, segment, segments, selectors, wildcard}
+use Rattle.jp_tree.specs.Tree.{literal_argument, name, negation, no_arguments, no_segments}
+use Rattle.jp_tree.specs.Tree.{node_value, null_literal, number, query, query_argument, segment}
+use Rattle.jp_tree.specs.Tree.{segments, selectors, text, wildcard}
 use Rattle.jp_tree.specs.declared.tree.Numeral.TheVariants.{Whole}
 use Rattle.jp_tree.specs.declared.tree.Op.TheVariants.{Equal}
 use Rattle.jp_evaluate.specs.Nodelist.{nodelist}
@@ -136,3 +138,51 @@ joined_truths : kept_by
     (negation (exists children) ∷ all_of
     (exprs (exists children ∷ exists current ∷ [])) ∷ []))) ≡ (key_a ∷ []) ∷ (key_b ∷ []) ∷ []
 joined_truths = refl
+
+-- ---- functions, of each kind
+
+abbrev called : List ℕ → QueryTree → CallTree
+called name_chars q = call name_chars (argument_then (query_argument q) no_arguments)
+
+abbrev is_two : CallTree → ExprTree
+is_two f = comparison (call_value f) Equal (literal (number (Whole (pos 2))))
+
+-- the first child twice
+abbrev first_twice : QueryTree
+first_twice =
+    query false
+    (segments
+    (segment false (selectors (index (Whole (pos 0)) ∷ index (Whole (pos 0)) ∷ [])) ∷ []))
+
+abbrev first : QueryTree
+first = query false (segments (segment false (selectors (index (Whole (pos 0)) ∷ [])) ∷ []))
+
+-- $[?length(@)==2]: null has no length
+length_two : kept_by (is_two (called (codes "length") current)) ≡ (key_a ∷ []) ∷ []
+length_two = refl
+
+-- $[?count(@[0,0])==2]
+count_two : kept_by (is_two (called (codes "count") first_twice)) ≡ (key_a ∷ []) ∷ []
+count_two = refl
+
+-- $[?value(@[0,0])==null]: two nodes have no one value
+value_of_two : kept_by
+    (comparison (call_value (called (codes "value") first_twice)) Equal (literal null_literal)) ≡ []
+value_of_two = refl
+
+-- $[?value(distinct(@[0,0]))==null]
+value_of_one : kept_by
+    (comparison
+    (call_value
+    (call (codes "value")
+    (argument_then (call_argument (called (codes "distinct") first_twice)) no_arguments))) Equal
+    (literal null_literal)) ≡ (key_a ∷ []) ∷ []
+value_of_one = refl
+
+-- $[?match(@[0],'')]: null is no text
+match_of_null : kept_by
+    (call_test
+    (call (codes "match")
+    (argument_then (query_argument first)
+    (argument_then (literal_argument (text [])) no_arguments)))) ≡ []
+match_of_null = refl
