@@ -109,6 +109,21 @@ fn run(task: &str, value: &Value, out: Lines) -> io::Result<()> {
     }
 }
 
+/// Writes what stands at a pointer of a document in a cell of its own: a text by its characters, of which those
+/// that would end the cell are spelled otherwise.
+fn cell(out: Lines, value: &Value, pointer: &str) -> io::Result<()> {
+    match value.pointer(pointer) {
+        None => Ok(()),
+        Some(Value::String(text)) if text.contains(['\t', '\n', '\r', '\\']) => {
+            let spelled = text.replace('\\', "\\\\").replace('\t', "\\t");
+            let spelled = spelled.replace('\n', "\\n").replace('\r', "\\r");
+            out.write_all(spelled.as_bytes())
+        }
+        Some(Value::String(text)) => out.write_all(text.as_bytes()),
+        Some(value) => Ok(serde_json::to_writer(out, value)?),
+    }
+}
+
 type Task = Box<dyn Fn(&Value, &[u8], Lines) -> io::Result<()>>;
 
 /// What is done with the document of each line, and with the line.
@@ -137,6 +152,14 @@ fn task_over_lines(task: &str) -> Option<Task> {
                 out.write_all(text)?;
             }
             Ok(())
+        }),
+        "lines: columns" => Box::new(|value, _, out| {
+            cell(out, value, "/id")?;
+            for pointer in ["/level", "/user/name", "/message"] {
+                out.write_all(b"\t")?;
+                cell(out, value, pointer)?;
+            }
+            out.write_all(b"\n")
         }),
         _ => return None,
     })
