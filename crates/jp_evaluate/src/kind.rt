@@ -1,4 +1,5 @@
 //! The kinds of functions (RFC 9535 section 2.4.1), and the functions that make a value of a value.
+
 ghost use Rattle.jp_select.specs.Steps.{IsSpent, Takes};
 ghost use Rattle.std.specs.Prelude.{◌≡◌, IfOk, OnErr};
 ghost use Rattle.jp_select.specs.Comparable.{comparable_of};

@@ -135,8 +135,8 @@ impl<'d, 't> FlatValue<'d, 't> {
         }
     }
 
-    /// The same of an object of these members. It stands apart, so that other values are told from objects
-    /// before anything is called.
+    /// The member of this name, of an object that has these members. It stands apart, so that other values
+    /// are told from objects before anything is called.
     #[inline(never)]
     fn member_in(self, span: Span, name: &str) -> Option<(Step<'d>, FlatValue<'d, 't>)>
         requires { self.item ≡ Members span }

@@ -100,7 +100,7 @@ fn front_of(name: &[u8]) -> u64
     }
 }
 
-/// The same for names that may be shorter, out of the way of the others: where eight bytes are known
+/// The front of a name that may be shorter, out of the way of the others: where eight bytes are known
 /// to stand there, none of them is looked for.
 #[inline(never)]
 fn front_of_short(name: &[u8]) -> u64

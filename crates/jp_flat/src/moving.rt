@@ -26,7 +26,7 @@ pub(crate) fn move_parts<T: Copy>(
     Some(())
 }
 
-/// The same of one part or none, which is what most lists have that stand deep.
+/// Moves one part or none, which is what most lists have that stand deep.
 #[inline(always)]
 fn move_part<T: Copy>(table: &mut Vec<T>, parts: &mut Vec<T>, first: usize) -> Option<()>
     requires { (first ≤ length parts.old.items) × (length parts.old.items < first + 2) }

@@ -1,4 +1,5 @@
 //! Values that are written raw: strings by their characters.
+
 ghost use Rattle.std.specs.Prelude.{◌≡◌, ◌++◌, OnOk, option_map, string_bytes};
 ghost use Rattle.jp_lent.specs.Raw.{characters_of, raw_text};
 

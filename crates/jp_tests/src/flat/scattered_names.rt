@@ -1,4 +1,5 @@
 //! Objects of many members whose names come in any order.
+
 use jp_flat::flat_document;
 use jp_lent::value_text;
 use std::alloc::{AllocError, Global};
