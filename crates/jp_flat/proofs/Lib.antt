@@ -1,6 +1,7 @@
 -- The files of lemmas. `pub` are those that proofs of other crates may name.
 pub mod Ahead
 pub mod Blocks
+pub mod ByKeys
 pub mod Digits
 pub mod Documents
 pub mod FoundInside

@@ -1,54 +1,29 @@
--- Members in another order, those of each name in theirs: for `sort_many` and `close_object`.
-use Rattle.std.proofs.Common.{◌≡◌, ◌⊎◌, inl, inr, ◌&&◌, ◌++◌, ◌∷◌, ℕ, Bool, true, false, not, List, []}
-use Rattle.std.proofs.Common.{Option, Some, Ordering, Less, Equal, Greater, is_eq, is_lt, cond}
-use Rattle.std.proofs.Common.{map, drop, unwrap_or, refl, sym, ap, subst, ◌∙◌}
+-- Members in another order, those of each name in theirs: for `close_object`.
+use Rattle.std.proofs.Common.{◌≡◌, ◌∷◌, ℕ, Bool, true, false, List, []}
+use Rattle.std.proofs.Common.{Option, Some, Ordering, Less, Equal, Greater, is_eq, cond}
+use Rattle.std.proofs.Common.{map, unwrap_or, refl, sym, ap, ◌∙◌}
 use Rattle.std.specs.BTreeMap.{insert_entry}
-use Rattle.std.specs.Cmp.{IsTotalOrder, tied_then}
 use Rattle.std.specs.FinMap.{FinMap, entries, from_sorted, get, insert, entries-from_sorted}
 use Rattle.std.specs.FinMap.{entries-insert, get-insert, same_map, nat_cmp-IsAntisymmetric, slice_cmp-IsAntisymmetric}
 use Rattle.std.specs.FinMap.Entries as fin
 use Rattle.std.specs.List.{All, filter}
-use Rattle.std.specs.List.Sorted.{IsPermutation, IsStableBy, ties}
-use Rattle.std.specs.Ordering.{match_ordering, nat_cmp, ordering_reverse}
-use Rattle.std.proofs.lemmas.Cmp.{nat_cmp_total, nat_list_cmp_total, on_total, then_total}
-use Rattle.std.proofs.lemmas.List.{map_push}
-use Rattle.std.proofs.lemmas.List.Elements.{All-cons, All-head, All-nil, All-push, All-tail}
-use Rattle.std.proofs.lemmas.List.Elements.{All-weaker}
-use Rattle.std.proofs.lemmas.List.Sorted.{All-permutation, IsPermutation-map}
-use Rattle.std.proofs.lemmas.Map.Lookups.{exact_bytes}
+use Rattle.std.specs.Ordering.{match_ordering}
+use Rattle.std.proofs.lemmas.Cmp.{nat_list_cmp_total}
+use Rattle.std.proofs.lemmas.List.Elements.{All-cons, All-head, All-nil, All-tail}
+use Rattle.std.proofs.lemmas.List.Sorted.{All-permutation}
 use Rattle.std.proofs.lemmas.Option.{same_Some}
 use Rattle.jp_document.specs.Value.{Value, null}
 use Rattle.jp_document.proofs.Members.ByName.{bytes_cmp}
 use Rattle.jp_document.proofs.Options.{some_from_both}
 use Rattle.jp_flat.specs.Flat.{Shown, all_of, member_with, text_at}
-use Rattle.jp_flat.specs.Private.Fronts.{front_of}
-use Rattle.jp_flat.specs.Private.Keys.{AreKeyed, keyed_cmp, members_in}
-use Rattle.jp_flat.specs.Private.Parts.{is_named, name_in}
+use Rattle.jp_flat.specs.Private.Parts.{name_in}
 use Rattle.jp_flat.specs.Private.Reading.{put_all}
 use Rattle.jp_flat.specs.Private.Sorting.{IsSameByName, PutsAll}
 use Rattle.jp_flat.specs.declared.item.Item.{Item}
 use Rattle.jp_flat.specs.declared.item.Named.{Named}
-use Rattle.jp_flat.specs.declared.key.Keyed.{Keyed}
 use Rattle.jp_flat.proofs.Names.{Pair}
-use Rattle.jp_flat.proofs.Putting.{own_reverse}
 
--- ---- filters
-
-filter_on : {X : Type 0} (p q : X → Bool) (xs : List X) → All (λ x. p x ≡ q x) xs
-    → filter p xs ≡ filter q xs
-filter_on p q [] same = refl
-filter_on p q (x ∷ xs) same =
-    ap (λ b. cond b (x ∷ filter p xs) (filter p xs)) (All-head (λ x. p x ≡ q x) x xs same)
-    ∙ ap (λ zs. cond (q x) (x ∷ zs) zs) (filter_on p q xs (All-tail (λ x. p x ≡ q x) x xs same))
-
-filter_none : {X : Type 0} (p : X → Bool) (xs : List X) → All (λ x. p x ≡ false) xs
-    → filter p xs ≡ []
-filter_none p [] none = refl
-filter_none p (x ∷ xs) none =
-    ap (λ b. cond b (x ∷ filter p xs) (filter p xs)) (All-head (λ x. p x ≡ false) x xs none)
-    ∙ filter_none p xs (All-tail (λ x. p x ≡ false) x xs none)
-
-filter_map : {X Y : Type 0} (f : X → Y) (p : Y → Bool) (xs : List X)
+pub filter_map : {X Y : Type 0} (f : X → Y) (p : Y → Bool) (xs : List X)
     → filter p (map f xs) ≡ map f (filter (λ x. p (f x)) xs)
 filter_map f p [] = refl
 filter_map f p (x ∷ xs) =
@@ -170,113 +145,3 @@ puts_moved t members sorted found same puts f ms is =
     (put_same (map pair sorted) (map pair members) (λ q.
     filter_map pair (has_name q) sorted ∙ ap (map pair) (same.named q)
     ∙ sym (filter_map pair (has_name q) members)) ∙ ap (put_all []) h.1)
-
--- ---- a stable sort by keys that names have
-
-pub keyed_cmp-total : (t : Shown) → IsTotalOrder (keyed_cmp t)
-keyed_cmp-total t =
-    then_total (on_total (λ k. k.key) nat_cmp_total)
-    (on_total (λ k. name_in t k.member) nat_list_cmp_total)
-
-tied : {X : Type 0} {R : X → X → Ordering} → IsTotalOrder R → (x y : X)
-    → ties (λ x y. is_lt (R x y)) x y ≡ is_eq (R x y)
-tied {R = R} o x y =
-    ap (λ r. not (is_lt (R x y)) && not (is_lt r)) (o.antisymm y x) ∙ by (R x y)
-  where
-    by : (r : Ordering) → (not (is_lt r) && not (is_lt (ordering_reverse r))) ≡ is_eq r
-    by Less = refl
-    by Equal = refl
-    by Greater = refl
-
-abbrev HasKey : Shown → ℕ → Keyed → Type 0
-HasKey t shared k = k.key ≡ front_of 8 (drop shared (name_in t k.member))
-
-pub keyed_more : (t : Shown) (shared : ℕ) (members : List Named) (ks : List Keyed) (k : Keyed)
-    → HasKey t shared k → AreKeyed t shared members ks
-    → AreKeyed t shared (members ++ k.member ∷ []) (ks ++ k ∷ [])
-keyed_more t shared members ks k has so = record {
-  same = map_push (λ k. k.member) ks k ∙ ap (λ ms. ms ++ k.member ∷ []) so.same;
-  keys = All-push (HasKey t shared) ks k so.keys has;
-}
-
-equal : (o : Ordering) → is_eq o ≡ true → o ≡ Equal
-equal Less is = absurd (cc (is))
-equal Equal is = refl
-equal Greater is = absurd (cc (is))
-
-implied : (a b : Bool) → (b ≡ true → a ≡ true) → (a && b) ≡ b
-implied true b h = refl
-implied false true h = absurd (cc (h refl))
-implied false false h = refl
-
--- with such keys those tie that have one name
-tied_by_name : (t : Shown) (shared : ℕ) (x y : Keyed) → HasKey t shared x → HasKey t shared y
-    → ties (λ a b. is_lt (keyed_cmp t a b)) x y ≡ is_named t (name_in t x.member) y.member
-tied_by_name t shared x y x_has y_has =
-    let names = bytes_cmp (name_in t x.member) (name_in t y.member) in
-    tied (keyed_cmp-total t) x y ∙ sym (tied_then (nat_cmp x.key y.key) names)
-    ∙ implied (is_eq (nat_cmp x.key y.key)) (is_eq names) (λ is.
-    let name = exact_bytes _ _ (equal names is) in
-    let key : x.key ≡ y.key =
-    x_has ∙ ap (λ n. front_of 8 (drop shared n)) name ∙ sym y_has in
-    ap is_eq (ap (λ n. nat_cmp n y.key) key
-    ∙ own_reverse (nat_cmp y.key y.key) (nat_cmp_total.antisymm y.key y.key)))
-
--- no member has the name, or it is that of one with its key
-abbrev IsNamedOrNone : Shown → ℕ → List ℕ → List Keyed → Type 0
-IsNamedOrNone t shared q xs =
-    All (λ k. is_named t q k.member ≡ false) xs
-    ⊎ ((x : Keyed) × HasKey t shared x × (name_in t x.member ≡ q))
-
-named_or_none : (t : Shown) (shared : ℕ) (q : List ℕ) (xs : List Keyed) → All (HasKey t shared) xs
-    → IsNamedOrNone t shared q xs
-named_or_none t shared q [] each = inl (All-nil (λ k. is_named t q k.member ≡ false))
-named_or_none t shared q (x ∷ xs) each =
-    by (is_named t q x.member) refl
-    (named_or_none t shared q xs (All-tail (HasKey t shared) x xs each))
-  where
-    by : (b : Bool) → is_named t q x.member ≡ b → IsNamedOrNone t shared q xs
-        → IsNamedOrNone t shared q (x ∷ xs)
-    by true is later =
-        inr (x, All-head (HasKey t shared) x xs each, sym (exact_bytes _ _ (equal _ is)))
-    by false is (inl none) = inl (All-cons (λ k. is_named t q k.member ≡ false) x xs is none)
-    by false is (inr some) = inr some
-
-pub sorted_same : (t : Shown) (shared : ℕ) (members : List Named) (xs ys : List Keyed)
-    → AreKeyed t shared members xs → IsPermutation xs ys
-    → IsStableBy (λ a b. is_lt (keyed_cmp t a b)) xs ys → IsSameByName t members (members_in ys)
-sorted_same t shared members xs ys keyed moved stable = record {
-  moved =
-      subst (λ ms. IsPermutation ms (members_in ys)) keyed.same
-      (IsPermutation-map (λ k. k.member) xs ys moved);
-  named = λ q.
-      filter_map (λ k. k.member) (is_named t q) ys ∙ ap members_in (kept q)
-      ∙ sym (filter_map (λ k. k.member) (is_named t q) xs)
-      ∙ ap (filter (is_named t q)) keyed.same;
-}
-  where
-    lt : Keyed → Keyed → Bool
-    lt a b = is_lt (keyed_cmp t a b)
-
-    named : List ℕ → Keyed → Bool
-    named q k = is_named t q k.member
-
-    by_ties : (x : Keyed) → HasKey t shared x → (zs : List Keyed) → All (HasKey t shared) zs
-        → filter (named (name_in t x.member)) zs ≡ filter (ties lt x) zs
-    by_ties x has zs each =
-        filter_on (named (name_in t x.member)) (ties lt x) zs
-        (All-weaker (HasKey t shared) (λ y. named (name_in t x.member) y ≡ ties lt x y)
-        (λ y y_has. sym (tied_by_name t shared x y has y_has)) zs each)
-
-    kept : (q : List ℕ) → filter (named q) ys ≡ filter (named q) xs
-    kept q =
-        let each = All-permutation (HasKey t shared) xs ys moved keyed.keys in
-        elim (named_or_none t shared q xs keyed.keys) [
-          | inl none ↦
-              filter_none (named q) ys (All-permutation (λ k. named q k ≡ false) xs ys moved none)
-              ∙ sym (filter_none (named q) xs none)
-          | inr some ↦
-              subst (λ n. filter (named n) ys ≡ filter (named n) xs) some.2
-              (by_ties some.0 some.1 ys each ∙ stable some.0
-              ∙ sym (by_ties some.0 some.1 xs keyed.keys))
-        ]

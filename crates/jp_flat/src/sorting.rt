@@ -1,6 +1,6 @@
 //! Members put in the order of their names.
 
-ghost use Rattle.std.specs.Prelude.{◌≡◌, ◌≤◌, ◌++◌, IfSome, OnSome, drop, length, take};
+ghost use Rattle.std.specs.Prelude.{◌≡◌, ◌<◌, ◌≤◌, IfSome, OnSome, drop, length, take};
 ghost use Rattle.std.specs.Cmp.Lexicographic.{slice_cmp};
 ghost use Rattle.std.specs.List.{insert};
 ghost use Rattle.std.specs.List.Sorted.{IsBinarySearchResult, IsSearchInRange};
@@ -19,6 +19,10 @@ use std::cmp::Ordering;
 
 /// The most members that are put in order one by one.
 const MAX_MOVED: usize = 64;
+
+/// How often members are sorted by keys before they are by their whole names: each time takes up to
+/// eight more bytes of a name for a key, and room on the stack.
+const MAX_AGAIN: u32 = 4;
 
 /// Fills `found` with the members in the order of their names, each instead of an earlier one
 /// of its name. Members in that order all go in last.
@@ -84,8 +88,8 @@ fn search(tables: &Tables<'_>, members: &[Named], name: &[u8]) -> Result<usize, 
     Err(low)
 }
 
-/// Sorts the members from the base on by their names, those of one name as they came. Few of them stay
-/// as they are: `put_each` takes less time than that.
+/// Sorts the members from the base on by their names, those of one name as they came, so that `put_each`
+/// takes little time. Few of them stay as they are, since sorting would take more.
 pub(crate) fn sort_many(tables: &Tables<'_>, members: &mut Vec<Named>, base: usize) -> Option<()>
     requires { base ≤ length members.old.items }
     ensures front { OnSome result (take base members.new.items ≡ take base members.old.items) }
@@ -96,27 +100,59 @@ pub(crate) fn sort_many(tables: &Tables<'_>, members: &mut Vec<Named>, base: usi
     if members.len() - base <= MAX_MOVED {
         return Some(());
     }
-    let sorted = sorted(*members.allocator(), tables, &members[base..])?;
+    sort_by_keys(tables, members, base, MAX_AGAIN)
+}
+
+/// Sorts the members from the base on by their keys, then those of one key again so, as often as the
+/// number says, and then by their whole names.
+fn sort_by_keys(
+    tables: &Tables<'_>,
+    members: &mut Vec<Named>,
+    base: usize,
+    again: u32,
+) -> Option<()>
+    requires { base ≤ length members.old.items }
+    ensures front { OnSome result (take base members.new.items ≡ take base members.old.items) }
+    ensures same { OnSome result (IsSameByName (shown tables.now) (drop base members.old.items)
+        (drop base members.new.items)) }
+    ensures long { OnSome result (base ≤ length members.new.items) }
+{
+    if members.len() - base < 2 {
+        return Some(());
+    }
+    let sorted = sorted(*members.allocator(), tables, &members[base..], again)?;
     members.truncate(base);
-    list(&sorted, members)?;
+    let mut first = base;
+    for index in 0..sorted.len() {
+        members.push(sorted[index].member).ok()?;
+        if again > 0 && ends_run(&sorted, index) {
+            sort_by_keys(tables, members, first, again - 1)?;
+            first = members.len();
+        }
+    }
     Some(())
 }
 
-/// The members in the order of their names, those of one name as they came.
-fn sorted(alloc: Global, tables: &Tables<'_>, members: &[Named]) -> Option<Vec<Keyed>>
+/// The members in the order of their keys, those of one name as they came. Where those of one key are
+/// not sorted again, they stand in the order of their names.
+fn sorted(alloc: Global, tables: &Tables<'_>, members: &[Named], again: u32) -> Option<Vec<Keyed>>
     ensures { IfSome result (λ v. IsSameByName (shown tables.now) members.now (members_in v.items)) }
 {
     let mut found = with_keys(alloc, tables, members, shared_length(tables, members))?;
+    if again > 0 {
+        found.sort_by_key(|keyed| keyed.key).ok()?;
+        return Some(found);
+    }
     found.sort_by(|a, b| order(tables, a, b)).ok()?;
     Some(found)
 }
 
-/// Appends the members without their keys.
-fn list(sorted: &[Keyed], found: &mut Vec<Named>) -> Option<()>
-    ensures { OnSome result (found.new.items ≡ found.old.items ++ members_in sorted.now) }
+/// Whether the next member has another key, or there is none.
+fn ends_run(sorted: &[Keyed], index: usize) -> bool
+    requires { index < length sorted.now }
 {
-    for keyed in sorted {
-        found.push(keyed.member).ok()?;
+    match sorted.get(index + 1) {
+        Some(next) => next.key != sorted[index].key,
+        None => true,
     }
-    Some(())
 }

@@ -5,7 +5,7 @@ use Rattle.jp_flat.specs.Private.Keys.{AreKeyed}
 use Rattle.jp_flat.specs.declared.item.Item.TheVariants as code
 use Rattle.jp_flat.specs.declared.item.Named.{Named}
 use Rattle.jp_flat.specs.declared.key.Keyed.{Keyed}
-use Rattle.jp_flat.proofs.Moved.{keyed_more}
+use Rattle.jp_flat.proofs.ByKeys.{keyed_more}
 use Rattle.jp_flat.proofs.key.with_keys.Goals as goal
 
 pub loop-member-preserved : goal.loop-member-preserved
