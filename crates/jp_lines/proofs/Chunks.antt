@@ -2,14 +2,14 @@
 use Rattle.std.proofs.Common.{◌≡◌, inr, ℕ, ◌<◌, Bool, true, false, List, [], ◌∷◌, ◌++◌}
 use Rattle.std.proofs.Common.{length, Option, subst, refl, sym, ◌∙◌, ap, arith, string_bytes}
 use Rattle.std.proofs.lemmas.List.Folds.{list_all-append}
+use Rattle.std.specs.Prelude.{⊤}
 use Rattle.jp_command.specs.Limits.{document_limit}
 use Rattle.jp_command.specs.declared.fault.Fault.TheVariants as fault
 use Rattle.jp_lines.specs.Lines.{lines_of_input, newline}
-use Rattle.jp_lines.specs.Outcome.{Refused, ComesTo, defective, too_large}
-use Rattle.jp_lines.specs.Run.{GoesToRefusal, StopsAmong}
+use Rattle.jp_lines.specs.Outcome.{Refused, ComesTo, defective, refusals, tally_of, too_large}
 use Rattle.jp_lines.specs.Private.Passing.{EndsLine, Keeps, Passes, PassesOn, Standing}
-use Rattle.jp_lines.specs.Private.Passing.{StopsPassing, is_in_line, kept_of, standing}
-use Rattle.jp_lines.specs.Private.Treating.{StopsEnding}
+use Rattle.jp_lines.specs.Private.Passing.{StopsEnding, StopsPassing, StopsWithin, is_in_line, kept_of}
+use Rattle.jp_lines.specs.Private.Passing.{standing}
 use Rattle.jp_lines.specs.Task.{Task}
 use Rattle.jp_lines.specs.declared.defect.Defect.TheVariants.{TooLarge}
 use Rattle.jp_lines.specs.declared.defect.RefusedLine.{RefusedLine}
@@ -17,23 +17,25 @@ use Rattle.jp_lines.specs.declared.options.Options.{Options}
 use Rattle.jp_lines.specs.declared.passing.Progress.{Progress}
 use Rattle.jp_lines.specs.declared.stop.Stop.{Stop}
 use Rattle.jp_lines.specs.declared.stop.Stop.TheVariants as stop
-use Rattle.jp_lines.proofs.Going.{not_then, part-over, passes-end, passes-kept, passes-lines}
-use Rattle.jp_lines.proofs.Going.{passes-more, passes-none, stops-after, stops-longer}
+use Rattle.jp_lines.specs.declared.tally.Tally.{Tally}
+use Rattle.jp_lines.proofs.Going.{passes-end, passes-kept, passes-lines, passes-more, passes-none}
+use Rattle.jp_lines.proofs.Going.{within-after, within-longer, within-over}
 use Rattle.jp_lines.proofs.Outcomes.{kept-many}
 use Rattle.jp_lines.proofs.Splitting.{lines-ended, lines-in_line, lines-some, lines-whole}
+use Rattle.jp_lines.proofs.Tallies.{none_where}
 
-module _ (options : Options) {W E : Type 0} (contents : W → Option (List ℕ))
+module _ (options : Options) (lead : List ℕ) {W E : Type 0} (contents : W → Option (List ℕ))
     (writes_failed : W → Bool) (reports : E → Option (List ℕ)) (reports_failed : E → Bool)
     (task : Task) where
   abbrev On : List ℕ → Progress → Progress → List ℕ → W → W → E → E → Type 0
-  On = PassesOn options contents writes_failed reports reports_failed task
+  On = PassesOn options lead contents writes_failed reports reports_failed task
 
-  abbrev Stops : ℕ → List (List ℕ) → Type 0 → ℕ → W → W → E → E → Stop → Type 0
-  Stops = StopsAmong options contents writes_failed reports reports_failed task
+  abbrev Within : ℕ → List (List ℕ) → Type 0 → ℕ → Tally → Tally → W → W → E → E → Stop → Type 0
+  Within = StopsWithin options lead contents writes_failed reports reports_failed task
 
   -- the lines that ended and the one that has begun
   pub passes-all : (bytes : List ℕ) (s t : Standing) (o p : W) (u v : E)
-      → (passes : Passes options contents writes_failed reports reports_failed task bytes s t o p u v)
+      → (passes : Passes options lead contents writes_failed reports reports_failed task bytes s t o p u v)
       → is_in_line t.line ≡ true
       → lines_of_input (s.line ++ bytes) ≡ passes.lines ++ t.line ∷ []
   passes-all bytes s t o p u v passes in_line =
@@ -46,7 +48,7 @@ module _ (options : Options) {W E : Type 0} (contents : W → Option (List ℕ))
   on-none a line o u keeps = record {
     next = line;
     keeps = keeps;
-    passes = passes-none options contents writes_failed reports reports_failed task
+    passes = passes-none options lead contents writes_failed reports reports_failed task
         (standing a line) o u;
   }
 
@@ -59,78 +61,85 @@ module _ (options : Options) {W E : Type 0} (contents : W → Option (List ℕ))
   on-kept taken piece a b c line o p u v on in_line number tally kept = record {
     next = on.next ++ piece;
     keeps = (list_all-append _ on.next piece ∙ rw (on.keeps.0, in_line) refl, kept on.next on.keeps.1);
-    passes = passes-more options contents writes_failed reports reports_failed task taken piece _ _ _
+    passes = passes-more options lead contents writes_failed reports reports_failed task taken piece _ _ _
         _ _ _ _ _ _ on.passes
-        (passes-kept options contents writes_failed reports reports_failed task piece
-        (standing b on.next) (standing c (on.next ++ piece)) p v number (ap (λ t. t.refused) tally)
-        (ap (λ t. t.selected) tally) refl);
+        (passes-kept options lead contents writes_failed reports reports_failed task piece
+        (standing b on.next) (standing c (on.next ++ piece)) p v number tally refl);
   }
 
   -- a newline ends the line
   pub on-ended : (taken : List ℕ) (a b c : Progress) (line : List ℕ) (o p r : W) (u v w : E)
       → (on : On taken a b line o p u v)
-      → EndsLine options contents writes_failed reports reports_failed task b c on.next p r v w
+      → EndsLine options lead contents writes_failed reports reports_failed task b c on.next p r v w
       → On (taken ++ newline ∷ []) a c line o r u w
   on-ended taken a b c line o p r u v w on ends = record {
     next = [];
     keeps = ends.keeps;
-    passes = passes-more options contents writes_failed reports reports_failed task taken
+    passes = passes-more options lead contents writes_failed reports reports_failed task taken
         (newline ∷ []) _ _ _ _ _ _ _ _ _ on.passes
-        (passes-end options contents writes_failed reports reports_failed task
+        (passes-end options lead contents writes_failed reports reports_failed task
         (standing b on.next) (standing c []) p r v w on.keeps.0 refl ends.over);
   }
 
   -- there is no memory to keep what comes
   pub on-stops_keeping : (taken rest : List ℕ) (a b : Progress) (line : List ℕ) (o p : W) (u v : E)
       → On taken a b line o p u v
-      → StopsPassing options contents writes_failed reports reports_failed task (taken ++ rest) a line
-      o p u v (stop.Run fault.NoMemory)
+      → StopsPassing options lead contents writes_failed reports reports_failed task (taken ++ rest) a b
+      line o p u v (stop.Run fault.NoMemory)
   on-stops_keeping taken rest a b line o p u v on =
-      subst (λ all. Stops a.number all (false ≡ true) 0 o p u v (stop.Run fault.NoMemory))
-      (sym (passes-lines options contents writes_failed reports reports_failed task taken rest _ _
-      o p u v on.passes)) (
-        part-over options contents writes_failed reports reports_failed task on.passes.lines _ _ 0 _ _
-            o p u v (lines-some (on.next ++ rest)) (omega arith) on.passes.over,
-        on.passes.over.goes.writes.works,
-      )
+      subst
+      (λ all. Within a.number all (false ≡ true) 0 a.tally b.tally o p u v (stop.Run fault.NoMemory))
+      (sym (passes-lines options lead contents writes_failed reports reports_failed task taken rest _ _
+      o p u v on.passes))
+      (within-over options lead contents writes_failed reports reports_failed task on.passes.lines
+      (lines_of_input (on.next ++ rest)) (false ≡ true) 0 (standing a line) (standing b on.next)
+      o p u v (lines-some (on.next ++ rest)) (omega arith) on.passes.over)
 
   -- the run stops at the line that a newline ends
-  pub on-stops_ending : (taken rest : List ℕ) (a b : Progress) (line : List ℕ) (o p r : W)
+  pub on-stops_ending : (taken rest : List ℕ) (a b c : Progress) (line : List ℕ) (o p r : W)
       (u v w : E) (why : Stop) → (on : On taken a b line o p u v)
-      → StopsEnding options contents writes_failed reports reports_failed task b.number on.next
-      p r v w why
-      → StopsPassing options contents writes_failed reports reports_failed task
-      (taken ++ newline ∷ rest) a line o r u w why
-  on-stops_ending taken rest a b line o p r u v w why on stops =
-      subst (λ all. Stops a.number all (false ≡ true) 0 o r u w why)
-      (sym (passes-lines options contents writes_failed reports reports_failed task taken
+      → StopsEnding options lead contents writes_failed reports reports_failed task b.number on.next
+      b.tally c.tally p r v w why
+      → StopsPassing options lead contents writes_failed reports reports_failed task
+      (taken ++ newline ∷ rest) a c line o r u w why
+  on-stops_ending taken rest a b c line o p r u v w why on stops =
+      subst (λ all. Within a.number all (false ≡ true) 0 a.tally c.tally o r u w why)
+      (sym (passes-lines options lead contents writes_failed reports reports_failed task taken
       (newline ∷ rest) _ _ o p u v on.passes
       ∙ ap (λ l. on.passes.lines ++ l) (lines-in_line on.next rest on.keeps.0)))
-      (stops-after options contents writes_failed reports reports_failed task on.passes.lines _ _ 0 0
-      _ _ o p r u v w why (omega arith) on.passes.over
-      (stops-longer options contents writes_failed reports reports_failed task b.number
-      (on.next ∷ []) (lines_of_input rest) _ _ 0 p r v w why (lines-some rest) stops))
+      (within-after options lead contents writes_failed reports reports_failed task on.passes.lines
+      (on.next ∷ lines_of_input rest) (false ≡ true) 0 0 (standing a line) (standing b on.next) c.tally
+      o p r u v w why (omega arith) on.passes.over
+      (within-longer options lead contents writes_failed reports reports_failed task b.number
+      (on.next ∷ []) (lines_of_input rest) ⊤ (false ≡ true) 0 b.tally c.tally p r v w why
+      (lines-some rest) stops))
 
   -- the line has more bytes than a document may have
   pub on-stops_growing : (taken : List ℕ) (a b : Progress) (line : List ℕ) (o p : W) (u v : E)
       (r : RefusedLine) → On taken a b line o p u v → document_limit < length b.line.items
       → r.number ≡ b.number → r.defect ≡ TooLarge → string_bytes r.explanation ≡ []
       → options.keep_going ≡ false
-      → GoesToRefusal options contents writes_failed reports reports_failed task a.number
-      (lines_of_input (line ++ taken)) (false ≡ true) 0 r o p u v
+      → StopsPassing options lead contents writes_failed reports reports_failed task taken a b line
+      o p u v (stop.Line r)
   on-stops_growing taken a b line o p u v r on many number defect behind stops = record {
-    lines = on.passes.lines;
-    line = on.next;
-    rest = [];
-    split = passes-all taken _ _ o p u v on.passes on.keeps.0;
-    outcomes = on.passes.over.outcomes;
-    goes = on.passes.over.goes;
-    unrefused = not_then _ _ on.passes.over.goes.allowed stops;
-    comes = subst
-        (λ n. ComesTo options task n on.next (Refused r)) on.passes.over.number
-        (defective TooLarge r (too_large (kept-many on.next (rw on.keeps.1 at many)))
-        (record { number_is = number; defect_is = defect; behind = behind }));
-    complete = inr (inr defect);
-    answered = omega arith;
-    stops = stops;
+    more = tally_of on.passes.over.outcomes;
+    counts = on.passes.over.counts;
+    stops = record {
+      lines = on.passes.lines;
+      line = on.next;
+      rest = [];
+      split = passes-all taken _ _ o p u v on.passes on.keeps.0;
+      outcomes = on.passes.over.outcomes;
+      goes = on.passes.over.goes;
+      counts = refl;
+      unrefused = none_where (refusals on.passes.over.outcomes) options.keep_going
+          on.passes.over.goes.allowed stops;
+      comes = subst
+          (λ n. ComesTo options task n on.next (Refused r)) on.passes.over.number
+          (defective TooLarge r (too_large (kept-many on.next (rw on.keeps.1 at many)))
+          (record { number_is = number; defect_is = defect; behind = behind }));
+      complete = inr (inr defect);
+      answered = omega arith;
+      stops = stops;
+    };
   }

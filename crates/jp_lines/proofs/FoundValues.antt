@@ -1,13 +1,13 @@
 -- What is written of the value that was found at the location that a query names.
 use Rattle.std.proofs.Common.{◌≡◌, ℕ, List, Option, Some, None, is_some, map, option_map, option_to_list, ap, refl, sym}
-use Rattle.std.proofs.Common.{◌∙◌}
+use Rattle.std.proofs.Common.{◌∙◌, if◌then◌else◌, length}
 use Rattle.jp_document.specs.Location.{step_of, value_at}
 use Rattle.jp_document.specs.Node.{node_at}
 use Rattle.jp_document.specs.Value.{Value}
 use Rattle.jp_document.specs.declared.location.Step.{Step}
 use Rattle.jp_tree.specs.Tree.{QueryTree}
 use Rattle.jp_evaluate.specs.Named.{NamesLocation}
-use Rattle.jp_evaluate.specs.Nodelist.{has_node, nodelist}
+use Rattle.jp_evaluate.specs.Nodelist.{nodelist}
 use Rattle.jp_command.specs.Found.{found_nodes}
 use Rattle.jp_lines.specs.Task.{nodes_output, nodes_within}
 use Rattle.jp_lines.specs.declared.options.Extent.{Extent}
@@ -40,13 +40,16 @@ module _ {V : Type 0} (m : V → Value) where
       (found-within extent ks found
       ∙ ap (nodes_within extent) (found-selected q d ks found names at))
 
-  -- and it is selected where it was found
-  pub found-selects : (q : QueryTree) (d : Value) (ks : List Step) (found : Option V)
+  -- and as many are selected
+  pub found-counted : (extent : Extent) (q : QueryTree) (d : Value) (ks : List Step) (found : Option V)
       → NamesLocation q (map step_of ks) → value_at d (map step_of ks) ≡ option_map m found
-      → has_node (found_nodes m ks found) ≡ has_node (nodelist q d)
-  found-selects q d ks found names at = ap has_node (found-selected q d ks found names at)
+      → length (found_nodes m ks found) ≡ length (nodes_within extent (nodelist q d))
+  found-counted extent q d ks found names at =
+      ap length
+      (found-within extent ks found
+      ∙ ap (nodes_within extent) (found-selected q d ks found names at))
 
-  pub found_some : (ks : List Step) (found : Option V)
-      → is_some found ≡ has_node (found_nodes m ks found)
-  found_some ks None = refl
-  found_some ks (Some v) = refl
+  pub found_count : (ks : List Step) (found : Option V)
+      → (if is_some found then 1 else 0) ≡ length (found_nodes m ks found)
+  found_count ks None = refl
+  found_count ks (Some v) = refl

@@ -7,7 +7,8 @@ use Rattle.std.proofs.lemmas.List.{length-take, take_min}
 use Rattle.jp_command.specs.Limits.{document_limit}
 use Rattle.jp_lines.specs.Private.Passing.{kept_of}
 
-take-append : (n : ℕ) (xs ys : List ℕ)
+-- the first of some items and of those behind them
+pub take-append : {A : Type 0} (n : ℕ) (xs ys : List A)
     → take n (xs ++ ys) ≡ take n xs ++ take (n - length xs) ys
 take-append zero [] ys = refl
 take-append zero (x ∷ xs) ys =

@@ -1,9 +1,9 @@
 -- The files of lemmas. `pub` are those that proofs of other crates may name.
 pub mod Splitting
 pub mod ToldLemmas
-pub mod Told
 pub mod Outcomes
 pub mod Kept
+pub mod Tallies
 pub mod Going
 pub mod LineLemmas
 pub mod FoundValues
@@ -11,9 +11,11 @@ pub mod Within
 pub mod Finding
 pub mod Chunks
 pub mod Ending
+pub mod Asking
 pub mod OneLine
-pub mod Flushing
+pub mod InTurn
+pub mod Closings
 pub mod Matches
-pub mod Beginning
+pub mod QueryWords
 pub mod OneByOne
 pub mod Rows

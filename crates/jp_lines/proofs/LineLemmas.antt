@@ -1,12 +1,11 @@
 -- One line: its answer, its refusal, and why a run stops at it.
-use Rattle.std.proofs.Common.{◌≡◌, ◌⊎◌, inl, inr, ℕ, suc, ◌≤◌, ◌||◌, Bool, true, false, List, []}
+use Rattle.std.proofs.Common.{◌≡◌, ◌⊎◌, inl, inr, ℕ, suc, ◌≤◌, Bool, true, false, List, []}
 use Rattle.std.proofs.Common.{◌∷◌}
 use Rattle.std.proofs.Common.{length, Option, Result, Ok, Err, IfOk, IfErr}
 use Rattle.std.proofs.Common.{subst, refl, sym, ◌∙◌, ap, arith}
 use Rattle.std.proofs.KnownBytes.{Keeps-refl}
-use Rattle.std.proofs.Math.Bool.{or-false}
 use Rattle.std.proofs.lemmas.List.{append-nil}
-use Rattle.std.specs.Io.KnownBytes.{Keeps}
+use Rattle.std.specs.Io.KnownBytes.{Appends, Keeps}
 use Rattle.std.specs.Prelude.{⊤}
 use Rattle.std.specs.Result.{IsErrAnd}
 use Rattle.jp_document.specs.Document.{IsDocument, IsDocumentFault}
@@ -21,18 +20,19 @@ use Rattle.jp_command.specs.declared.fault.Fault.{Fault}
 use Rattle.jp_command.specs.declared.fault.Fault.TheVariants as fault
 use Rattle.jp_command.proofs.Streams.{Appends-keeps, prefix-whole}
 use Rattle.jp_lines.specs.Lines.{is_blank_line}
-use Rattle.jp_lines.specs.Outcome.{LineOutcome, Answered, Refused, ComesTo, blank, document}
+use Rattle.jp_lines.specs.Outcome.{LineOutcome, Answered, Blank, Refused, ComesTo, blank, document}
 use Rattle.jp_lines.specs.Outcome.{IsDefective, IsRefusal, defective, no_document, steps_used_up}
-use Rattle.jp_lines.specs.Outcome.{lead_of, told_of}
+use Rattle.jp_lines.specs.Outcome.{lead_of, left_after, plus, refusals, tally_in, tally_of, told_of_all}
+use Rattle.jp_lines.specs.Outcome.{written_of}
 use Rattle.jp_lines.specs.Run.{Goes, GoesInPart, WritesInPart}
 use Rattle.jp_lines.specs.Told.{Tells}
 use Rattle.jp_lines.specs.Private.Answers.{AnswersOrRefuses, AnswersInPart, AnswersLine}
 use Rattle.jp_lines.specs.Private.Answers.{StopsAnswering}
 use Rattle.jp_lines.specs.Private.Answers.{defect_of}
 use Rattle.jp_lines.specs.Private.Limits.{WritesOrGivesUp, stop_of}
-use Rattle.jp_lines.specs.Private.Passing.{GoesThrough, Standing, kept_of}
-use Rattle.jp_lines.specs.Private.Treating.{Treats, StopsEnding}
-use Rattle.jp_lines.specs.Task.{Task, mark_behind_number, selects, written_for}
+use Rattle.jp_lines.specs.Private.Passing.{GoesThrough, Standing, StopsEnding, kept_of}
+use Rattle.jp_lines.specs.Private.Treating.{Treats}
+use Rattle.jp_lines.specs.Task.{Task, mark_behind_number, selected_in, written_for}
 use Rattle.jp_lines.specs.declared.answer.Reply.{Reply}
 use Rattle.jp_lines.specs.declared.answer.Reply.TheVariants as reply
 use Rattle.jp_lines.specs.declared.answer.Reply.TheVariants.{Written}
@@ -45,6 +45,7 @@ use Rattle.jp_lines.specs.declared.stop.Stop.TheVariants as stop
 use Rattle.jp_lines.specs.declared.tally.Tally.{Tally}
 use Rattle.jp_lines.proofs.Going.{goes-none}
 use Rattle.jp_lines.proofs.Outcomes.{come-one, comes-kept}
+use Rattle.jp_lines.proofs.Tallies.{plus-none, tally-one, told-none}
 use Rattle.jp_lines.proofs.ToldLemmas.{Appends-none, tells-none, writes-none}
 
 -- an error that is this one
@@ -69,16 +70,12 @@ module _ {W : Type 0} (contents : W → Option (List ℕ)) (has_failed : W → B
   output d = written_for task (lead_of (mark_behind_number task) options.numbered n) line d
 
   pub answers-blank : (o : W) → length line ≤ document_limit → is_blank_line line ≡ true
-      → AnswersLine contents has_failed options task n line o o false
-  answers-blank o few is = record {
-    output = [];
-    comes = blank few is;
-    writes = writes-none contents has_failed o;
-  }
+      → AnswersOrRefuses contents has_failed options task n line o o reply.Blank
+  answers-blank o few is = (blank few is, refl)
 
   pub answers-document : (d : Value) (o p : W) → length line ≤ document_limit
       → is_blank_line line ≡ false → IsDocument line d
-      → WritesAll contents has_failed o p (output d) → (selected : Bool) → selected ≡ selects task d
+      → WritesAll contents has_failed o p (output d) → (selected : ℕ) → selected ≡ selected_in task d
       → AnswersLine contents has_failed options task n line o p selected
   answers-document d o p few some is writes selected same = record {
     output = output d;
@@ -90,8 +87,9 @@ module _ {W : Type 0} (contents : W → Option (List ℕ)) (has_failed : W → B
   -- it is written, or given up
   pub answers-wanted : (d : Value) (o p : W) (given : Reply) → length line ≤ document_limit
       → is_blank_line line ≡ false → IsDocument line d
-      → WritesOrGivesUp contents has_failed options.limit (selects task d) (output d) o p given
+      → WritesOrGivesUp contents has_failed options.limit (selected_in task d) (output d) o p given
       → AnswersOrRefuses contents has_failed options task n line o p given
+  answers-wanted d o p reply.Blank few some is up = absurd up
   answers-wanted d o p (Written selected) few some is writes =
       answers-document d o p few some is writes.1 selected writes.0
   answers-wanted d o p (reply.Refused (defect.StepsUsedUp made)) few some is up =
@@ -105,7 +103,7 @@ module _ {W : Type 0} (contents : W → Option (List ℕ)) (has_failed : W → B
       → StopsAnswering contents has_failed options task n line o p f
   stops-document d o p fault.NoMemory few some is stops = (
     inr (record {
-      selected = selects task d;
+      selected = selected_in task d;
       output = output d;
       comes = document d few some is;
       writes = stops.0;
@@ -114,7 +112,7 @@ module _ {W : Type 0} (contents : W → Option (List ℕ)) (has_failed : W → B
   )
   stops-document d o p fault.Write few some is stops = (
     record {
-      selected = selects task d;
+      selected = selected_in task d;
       output = output d;
       comes = document d few some is;
       writes = stops.0;
@@ -139,59 +137,100 @@ module _ {W : Type 0} (contents : W → Option (List ℕ)) (has_failed : W → B
   refuses-document document.ListTooLong o few some is =
       ((no_document document.ListTooLong few some is (λ e. cc), refl), tt)
 
-module _ (options : Options) {W E : Type 0} (contents : W → Option (List ℕ))
+-- a text that no refusal is told of
+told-nothing : (lead : List ℕ) (most : Option ℕ) (x : LineOutcome) → refusals (x ∷ []) ≡ []
+    → told_of_all lead most (x ∷ []) ≡ []
+told-nothing lead most Blank none = told-none lead most
+told-nothing lead most (Answered count output) none = told-none lead most
+told-nothing lead most (Refused r) none = cc
+
+module _ (options : Options) (lead : List ℕ) {W E : Type 0} (contents : W → Option (List ℕ))
     (writes_failed : W → Bool) (reports : E → Option (List ℕ)) (reports_failed : E → Bool)
-    (task : Task) (n : ℕ) (kept line : List ℕ) (is : kept ≡ kept_of line) where
+    (task : Task) (n : ℕ) (kept line : List ℕ) (is : kept ≡ kept_of line) (before : Tally) where
   abbrev Comes : LineOutcome → Type 0
   Comes = ComesTo options task n kept
 
+  -- how many refusals may be told still
+  abbrev left : Option ℕ
+  left = left_after before.refused options.reports
+
+  abbrev Treated : Tally → W → W → E → E → Type 0
+  Treated = Treats options lead contents writes_failed reports reports_failed task n line before
+
   abbrev Ends : W → W → E → E → Stop → Type 0
-  Ends = StopsEnding options contents writes_failed reports reports_failed task n line
+  Ends = StopsEnding options lead contents writes_failed reports reports_failed task n line before before
+
+  abbrev Part : W → W → E → E → Type 0
+  Part = GoesInPart options lead contents writes_failed reports reports_failed task left n (line ∷ [])
+      ⊤ 0 (tally_of [])
 
   comes-line : (x : LineOutcome) → Comes x → ComesTo options task n line x
   comes-line x comes = comes-kept options task n line x (subst (λ l. ComesTo options task n l x) is comes)
 
-  pub treats-answered : (selected : Bool) (o p r : W) (u : E)
-      → AnswersLine contents writes_failed options task n kept o p selected
-      → Keeps (contents p) (contents r) → writes_failed r ≡ writes_failed p
-      → Treats options contents writes_failed reports reports_failed task n line
-      (record { refused = false; selected = selected }) o r u u
-  treats-answered selected o p r u answers keeps works = record {
-    outcome = Answered selected answers.output;
-    comes = comes-line _ answers.comes;
-    writes = record {
-      written = Appends-keeps _ _ _ _ answers.writes.written keeps;
-      works = works ∙ answers.writes.works;
+  -- a line that is not refused
+  treats-quietly : (x : LineOutcome) (after : Tally) (o p : W) (u : E) → refusals (x ∷ []) ≡ []
+      → Comes x → WritesAll contents writes_failed o p (written_of x) → after ≡ plus before (tally_in x)
+      → Treated after o p u u
+  treats-quietly x after o p u none comes writes counts = record {
+    outcome = x;
+    goes = record {
+      come = come-one options task n line x (comes-line x comes);
+      writes = subst (WritesAll contents writes_failed o p) (sym (append-nil (written_of x))) writes;
+      tells = subst (Tells reports reports_failed u u) (sym (told-nothing lead left x none))
+          (tells-none reports reports_failed u);
+      allowed = λ some. absurd (some none);
+      quiet = λ e. refl;
     };
-    tells = tells-none reports reports_failed u;
-    refused = refl;
-    selected = refl;
-    allowed = λ e. cc;
-    quiet = λ e. refl;
+    counts = counts;
   }
 
-  pub treats-refused : (d : Defect) (r : RefusedLine) (o p : W) (u v : E)
+  pub treats-blank : (o p r : W) (u : E)
+      → AnswersOrRefuses contents writes_failed options task n kept o p reply.Blank
+      → Keeps (contents p) (contents r) → writes_failed r ≡ writes_failed p → Treated before o r u u
+  treats-blank o p r u answers keeps works =
+      treats-quietly Blank before o r u refl answers.0
+      (record {
+        written = Appends-keeps _ _ _ _
+            (subst (λ w. Appends (contents o) (contents w) []) (sym answers.1)
+            (Appends-none (contents o))) keeps;
+        works = works ∙ ap writes_failed answers.1;
+      })
+      (sym (plus-none before))
+
+  pub treats-answered : (selected : ℕ) (after : Tally) (o p r : W) (u : E)
+      → (answers : AnswersLine contents writes_failed options task n kept o p selected)
+      → Keeps (contents p) (contents r) → writes_failed r ≡ writes_failed p
+      → after ≡ plus before (tally_in (Answered selected answers.output)) → Treated after o r u u
+  treats-answered selected after o p r u answers keeps works counts =
+      treats-quietly (Answered selected answers.output) after o r u refl answers.comes
+      (record {
+        written = Appends-keeps _ _ _ _ answers.writes.written keeps;
+        works = works ∙ answers.writes.works;
+      })
+      counts
+
+  pub treats-refused : (d : Defect) (r : RefusedLine) (after : Tally) (o p : W) (u v : E)
       → IsDefective options kept d → IsRefusal options n kept d r → p ≡ o
-      → Tells reports reports_failed u v (told_of (Refused r)) → options.keep_going ≡ true
-      → Treats options contents writes_failed reports reports_failed task n line
-      (record { refused = true; selected = false }) o p u v
-  treats-refused d r o p u v has of same tells going = record {
+      → Tells reports reports_failed u v (told_of_all lead left (Refused r ∷ []))
+      → options.keep_going ≡ true → after ≡ plus before (tally_in (Refused r)) → Treated after o p u v
+  treats-refused d r after o p u v has of same tells going counts = record {
     outcome = Refused r;
-    comes = comes-line _ (defective d r has of);
-    writes = subst (λ w. WritesAll contents writes_failed o w []) (sym same)
-        (writes-none contents writes_failed o);
-    tells = tells;
-    refused = refl;
-    selected = refl;
-    allowed = λ e. going;
-    quiet = λ e. cc;
+    goes = record {
+      come = come-one options task n line (Refused r) (comes-line _ (defective d r has of));
+      writes = subst (λ w. WritesAll contents writes_failed o w []) (sym same)
+          (writes-none contents writes_failed o);
+      tells = tells;
+      allowed = λ e. going;
+      quiet = λ e. cc;
+    };
+    counts = counts;
   }
 
   -- nothing of the line is told, and of what is to be written of it nothing, or a prefix
   in-part : (o p : W) (u v : E) → v ≡ u
       → Keeps (contents o) (contents p)
-      ⊎ WritesInPart options contents writes_failed reports reports_failed task n (line ∷ []) ⊤ o p
-      → GoesInPart options contents writes_failed reports reports_failed task n (line ∷ []) ⊤ 0 o p u v
+      ⊎ WritesInPart options lead contents writes_failed reports reports_failed task n (line ∷ []) ⊤ o p
+      → Part o p u v
   in-part o p u v told next = record {
     lines = [];
     rest = line ∷ [];
@@ -199,24 +238,25 @@ module _ (options : Options) {W E : Type 0} (contents : W → Option (List ℕ))
     complete = inr tt;
     outcomes = [];
     between = o;
-    goes = subst (λ w. Goes options contents writes_failed reports reports_failed task n [] [] o o u w)
-        (sym told) (goes-none options contents writes_failed reports reports_failed task n o u);
+    goes = subst
+        (λ w. Goes options lead contents writes_failed reports reports_failed task left n [] [] o o u w)
+        (sym told)
+        (goes-none options lead contents writes_failed reports reports_failed task left n o u);
+    counts = refl;
     answered = omega arith;
     next = subst
         (λ m. Keeps (contents o) (contents p)
-        ⊎ WritesInPart options contents writes_failed reports reports_failed task m (line ∷ []) ⊤ o p)
+        ⊎ WritesInPart options lead contents writes_failed reports reports_failed task m (line ∷ []) ⊤ o p)
         (omega arith) next;
   }
 
-  part-none : (o p : W) (u v : E) → p ≡ o → v ≡ u
-      → GoesInPart options contents writes_failed reports reports_failed task n (line ∷ []) ⊤ 0 o p u v
+  part-none : (o p : W) (u v : E) → p ≡ o → v ≡ u → Part o p u v
   part-none o p u v written told =
       in-part o p u v told
       (inl (subst (λ r. Keeps (contents o) (contents r)) (sym written) (Keeps-refl (contents o))))
 
-  part-written : (selected : Bool) (text : List ℕ) (o p : W) (u : E) → Comes (Answered selected text)
-      → AppendsPrefix (contents o) (contents p) text
-      → GoesInPart options contents writes_failed reports reports_failed task n (line ∷ []) ⊤ 0 o p u u
+  part-written : (selected : ℕ) (text : List ℕ) (o p : W) (u : E) → Comes (Answered selected text)
+      → AppendsPrefix (contents o) (contents p) text → Part o p u u
   part-written selected text o p u comes writes =
       in-part o p u u refl (inr (record {
         line = line;
@@ -229,32 +269,72 @@ module _ (options : Options) {W E : Type 0} (contents : W → Option (List ℕ))
         writes = writes;
       }))
 
+  ends-exhausted : (o p : W) (u v : E) → Part o p u v → writes_failed p ≡ writes_failed o
+      → Ends o p u v (stop.Run fault.NoMemory)
+  ends-exhausted o p u v part works = record {
+    more = tally_of [];
+    counts = sym (plus-none before);
+    stops = (part, works);
+  }
+
+  ends-failed : (o p : W) (u v : E) → Part o p u v → writes_failed p ≡ true
+      → Ends o p u v (stop.Run fault.Write)
+  ends-failed o p u v part fails = record {
+    more = tally_of [];
+    counts = sym (plus-none before);
+    stops = (part, fails);
+  }
+
   pub stops-answering : (f : Fault) (o p : W) (u : E)
       → StopsAnswering contents writes_failed options task n kept o p f → Ends o p u u (stop.Run f)
-  stops-answering fault.NoMemory o p u stops = (go stops.0, stops.1)
+  stops-answering fault.NoMemory o p u stops = ends-exhausted o p u u (go stops.0) stops.1
     where
-      go : (p ≡ o) ⊎ AnswersInPart contents writes_failed options task n kept o p
-          → GoesInPart options contents writes_failed reports reports_failed task n (line ∷ []) ⊤ 0
-          o p u u
+      go : (p ≡ o) ⊎ AnswersInPart contents writes_failed options task n kept o p → Part o p u u
       go (inl same) = part-none o p u u same refl
       go (inr part) = part-written part.selected part.output o p u part.comes part.writes
   stops-answering fault.Write o p u stops =
-      (part-written stops.0.selected stops.0.output o p u stops.0.comes stops.0.writes, stops.1)
+      ends-failed o p u u
+      (part-written stops.0.selected stops.0.output o p u stops.0.comes stops.0.writes) stops.1
   stops-answering (fault.Query r) o p u stops = absurd stops
   stops-answering (fault.Document f) o p u stops = absurd stops
   stops-answering fault.DocumentTooLarge o p u stops = absurd stops
   stops-answering fault.Read o p u stops = absurd stops
 
   -- the flush after its answer failed
-  pub stops-flushing : (selected : Bool) (o p r : W) (u : E)
+  pub stops-flushing : (selected : ℕ) (o p r : W) (u : E)
       → AnswersLine contents writes_failed options task n kept o p selected
       → Keeps (contents p) (contents r) → writes_failed r ≡ true
       → Ends o r u u (stop.Run fault.Write)
-  stops-flushing selected o p r u answers keeps fails = (
-    part-written selected answers.output o r u answers.comes
-        (prefix-whole _ _ _ (Appends-keeps _ _ _ _ answers.writes.written keeps)),
-    fails,
-  )
+  stops-flushing selected o p r u answers keeps fails =
+      ends-failed o r u u
+      (part-written selected answers.output o r u answers.comes
+      (prefix-whole _ _ _ (Appends-keeps _ _ _ _ answers.writes.written keeps))) fails
+
+  -- the flush after a blank line failed
+  pub stops-flushing_blank : (o p r : W) (u : E)
+      → AnswersOrRefuses contents writes_failed options task n kept o p reply.Blank
+      → Keeps (contents p) (contents r) → writes_failed r ≡ true
+      → Ends o r u u (stop.Run fault.Write)
+  stops-flushing_blank o p r u answers keeps fails =
+      ends-failed o r u u
+      (in-part o r u u refl
+      (inl (subst (λ w. Keeps (contents w) (contents r)) answers.1 keeps))) fails
+
+  -- there is no number for what is selected up to it
+  pub stops-counting_nodes : (selected : ℕ) (o p r : W) (u : E)
+      → AnswersLine contents writes_failed options task n kept o p selected
+      → Keeps (contents p) (contents r) → writes_failed r ≡ writes_failed p
+      → Ends o r u u (stop.Run fault.NoMemory)
+  stops-counting_nodes selected o p r u answers keeps works =
+      ends-exhausted o r u u
+      (part-written selected answers.output o r u answers.comes
+      (prefix-whole _ _ _ (Appends-keeps _ _ _ _ answers.writes.written keeps)))
+      (works ∙ answers.writes.works)
+
+  -- nor for the lines that are refused
+  pub stops-counting_refusals : (o p : W) (u : E) → p ≡ o → Ends o p u u (stop.Run fault.NoMemory)
+  stops-counting_refusals o p u same =
+      ends-exhausted o p u u (part-none o p u u same refl) (ap writes_failed same)
 
   -- its refusal stops the run, or there is no memory to tell it
   pub stops-refusing : (d : Defect) (o p : W) (u v : E) (why : Stop) → IsDefective options kept d
@@ -264,71 +344,76 @@ module _ (options : Options) {W E : Type 0} (contents : W → Option (List ℕ))
       × (options.keep_going ≡ false))
       → Ends o p u v why
   stops-refusing d o p u v why has written told (inl is) =
-      subst (Ends o p u v) (sym is) (part-none o p u v written told, ap writes_failed written)
+      subst (Ends o p u v) (sym is)
+      (ends-exhausted o p u v (part-none o p u v written told) (ap writes_failed written))
   stops-refusing d o p u v why has written told (inr is) =
       subst (Ends o p u v) (sym is.0.2) (record {
-        lines = [];
-        line = line;
-        rest = [];
-        split = refl;
-        outcomes = [];
-        goes = subst (λ r. Goes options contents writes_failed reports reports_failed task n [] [] o r u v)
-            (sym written)
-            (subst (λ w. Goes options contents writes_failed reports reports_failed task n [] [] o o u w)
-            (sym told) (goes-none options contents writes_failed reports reports_failed task n o u));
-        unrefused = refl;
-        comes = subst (λ m. ComesTo options task m line (Refused is.0.0)) (omega arith)
-            (comes-line _ (defective d is.0.0 has is.0.1));
-        complete = inr (inl tt);
-        answered = omega arith;
-        stops = is.1;
+        more = tally_of [];
+        counts = sym (plus-none before);
+        stops = record {
+          lines = [];
+          line = line;
+          rest = [];
+          split = refl;
+          outcomes = [];
+          goes = subst
+              (λ r. Goes options lead contents writes_failed reports reports_failed task left n [] [] o r
+              u v)
+              (sym written)
+              (subst
+              (λ w. Goes options lead contents writes_failed reports reports_failed task left n [] [] o o
+              u w)
+              (sym told)
+              (goes-none options lead contents writes_failed reports reports_failed task left n o u));
+          counts = refl;
+          unrefused = refl;
+          comes = subst (λ m. ComesTo options task m line (Refused is.0.0)) (omega arith)
+              (comes-line _ (defective d is.0.0 has is.0.1));
+          complete = inr (inl tt);
+          answered = omega arith;
+          stops = is.1;
+        };
       })
 
-module _ (options : Options) {W E : Type 0} (contents : W → Option (List ℕ))
+module _ (options : Options) (lead : List ℕ) {W E : Type 0} (contents : W → Option (List ℕ))
     (writes_failed : W → Bool) (reports : E → Option (List ℕ)) (reports_failed : E → Bool)
     (task : Task) where
-  goes-line : (n : ℕ) (line : List ℕ) (tally : Tally) (o p : W) (u v : E)
-      → (treats : Treats options contents writes_failed reports reports_failed task n line tally o p u v)
-      → Goes options contents writes_failed reports reports_failed task n (line ∷ [])
-      (treats.outcome ∷ []) o p u v
-  goes-line n line tally o p u v treats = record {
-    come = come-one options task n line treats.outcome treats.comes;
-    writes = subst (WritesAll contents writes_failed o p) (sym (append-nil _)) treats.writes;
-    tells = subst (Tells reports reports_failed u v) (sym (append-nil _)) treats.tells;
-    allowed = λ e. treats.allowed (sym (or-false _) ∙ e);
-    quiet = λ e. treats.quiet (sym (or-false _) ∙ e);
-  }
-
   -- a line that is treated is gone over
-  pub over-line : (s t : Standing) (tally : Tally) (o p : W) (u v : E)
-      → Treats options contents writes_failed reports reports_failed task s.number s.line tally o p u v
-      → t.number ≡ suc s.number → t.refused ≡ (s.refused || tally.refused)
-      → t.selected ≡ (s.selected || tally.selected)
-      → GoesThrough options contents writes_failed reports reports_failed task (s.line ∷ []) s t o p u v
-  over-line s t tally o p u v treats number refused selected = record {
+  pub over-line : (s t : Standing) (o p : W) (u v : E)
+      → Treats options lead contents writes_failed reports reports_failed task s.number s.line
+      s.tally t.tally o p u v
+      → t.number ≡ suc s.number
+      → GoesThrough options lead contents writes_failed reports reports_failed task (s.line ∷ []) s t
+      o p u v
+  over-line s t o p u v treats number = record {
     outcomes = treats.outcome ∷ [];
-    goes = goes-line s.number s.line tally o p u v treats;
+    goes = treats.goes;
     number = number ∙ omega arith;
-    refused = refused ∙ ap (λ b. s.refused || b) (treats.refused ∙ sym (or-false _));
-    selected = selected ∙ ap (λ b. s.selected || b) (treats.selected ∙ sym (or-false _));
+    counts = treats.counts ∙ ap (plus s.tally) (sym (tally-one treats.outcome));
   }
 
   -- there are no numbers for the lines behind it
-  pub stops-counting : (n : ℕ) (line : List ℕ) (tally : Tally) (o p : W) (u v : E)
-      → Treats options contents writes_failed reports reports_failed task n line tally o p u v
-      → StopsEnding options contents writes_failed reports reports_failed task n line o p u v
-      (stop.Run fault.NoMemory)
-  stops-counting n line tally o p u v treats = (
-    record {
-      lines = line ∷ [];
-      rest = [];
-      front = refl;
-      complete = inr tt;
-      outcomes = treats.outcome ∷ [];
-      between = p;
-      goes = goes-line n line tally o p u v treats;
-      answered = omega arith;
-      next = inl (Keeps-refl (contents p));
-    },
-    treats.writes.works,
-  )
+  pub stops-counting : (n : ℕ) (line : List ℕ) (before after : Tally) (o p : W) (u v : E)
+      → Treats options lead contents writes_failed reports reports_failed task n line before after
+      o p u v
+      → StopsEnding options lead contents writes_failed reports reports_failed task n line before after
+      o p u v (stop.Run fault.NoMemory)
+  stops-counting n line before after o p u v treats = record {
+    more = tally_in treats.outcome;
+    counts = treats.counts;
+    stops = (
+      record {
+        lines = line ∷ [];
+        rest = [];
+        front = refl;
+        complete = inr tt;
+        outcomes = treats.outcome ∷ [];
+        between = p;
+        goes = treats.goes;
+        counts = sym (tally-one treats.outcome);
+        answered = omega arith;
+        next = inl (Keeps-refl (contents p));
+      },
+      treats.goes.writes.works,
+    );
+  }

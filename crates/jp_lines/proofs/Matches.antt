@@ -1,7 +1,7 @@
 -- The shape of the words of `jp-lines`, and what clap's matches of them hold.
 use Rattle.std.proofs.Common.{◌≡◌, ◌∙◌, ℕ, Bool, true, false, List, Option, Some, None}
-use Rattle.std.proofs.Common.{Result, Ok, Err, codes, if◌then◌else◌, ap, refl, sym, arith}
-use Rattle.std.specs.Prelude.{option_and_then, option_map}
+use Rattle.std.proofs.Common.{Result, Ok, Err, [], if◌then◌else◌, ap, refl, sym, arith}
+use Rattle.std.specs.Prelude.{option_and_then, option_map, unwrap_or}
 use Rattle.std.specs.Str.Parse.{ParsesUnsigned, digits_value, without_leading_plus}
 use Rattle.clap.specs.Matches.{ReadsOne, matched_of, one_text, raw_values}
 use Rattle.clap.specs.ValueTests.{is_unsigned_in}
@@ -12,15 +12,16 @@ use Rattle.clap.proofs.OnLiterals.{clap_on_literals}
 use Rattle.clap.proofs.ValueTestLemmas.{Accepts-accepts, accepts-Accepts}
 use Rattle.clap.proofs.WalkLemmas.{one_text-rows, raw_values-rows}
 use Rattle.jp_command.specs.CommandLine.{query_app}
-use Rattle.jp_lines.specs.CommandLine.{columns_app, greatest, jp_lines, keep_app, limit_asked, lines_app}
-use Rattle.jp_lines.specs.CommandLine.{number_in, queries_app, with_columns, with_keep, with_selections}
+use Rattle.jp_lines.specs.CommandLine.{columns_app, greatest, jp_lines, keep_app, lines_app, number_asked}
+use Rattle.jp_lines.specs.CommandLine.{number_in, queries_app, values_app, with_columns, with_keep}
+use Rattle.jp_lines.specs.CommandLine.{with_selections, words_of}
 
 pub jp_lines_is_free : is_simple_and_free jp_lines ≡ true
-unfolding clap_on_literals jp_lines with_columns with_keep with_selections keep_app lines_app columns_app queries_app query_app
+unfolding clap_on_literals jp_lines with_columns with_keep with_selections keep_app values_app lines_app columns_app queries_app query_app
 jp_lines_is_free = refl
 
 pub jp_lines_is_simple : is_simple jp_lines ≡ true
-unfolding clap_on_literals jp_lines with_columns with_keep with_selections keep_app lines_app columns_app queries_app query_app
+unfolding clap_on_literals jp_lines with_columns with_keep with_selections keep_app values_app lines_app columns_app queries_app query_app
 jp_lines_is_simple = refl
 
 not-true : (b : Bool) → (b ≡ true → ⊥) → b ≡ false
@@ -42,29 +43,31 @@ number-of_text E t None is =
     let reads = accepts-Accepts false (Unsigned 0 greatest) t fits in is.1 (reads.0, reads.1)) in
     sym (ap (λ b. if b then Some (digits_value 10 (without_leading_plus t)) else None) fails)
 
--- what `get_one` reads of the limit in the matches, as the type's `from_str` reads a text
-pub limit-read : (E : Type 0) (gives : List ℕ → Result ℕ E → Type 0)
+-- what `get_one` reads of the option of that name in the matches, as the type's `from_str` reads a text
+pub number-read : (E : Type 0) (gives : List ℕ → Result ℕ E → Type 0)
     → ((t : List ℕ) (r : Result ℕ E) → gives t r → ParsesUnsigned 64 10 t r) → (found : Found)
-    (value : Option ℕ) → (one_text found (codes "limit") ≡ None → value ≡ None)
-    → ((t : List ℕ) → one_text found (codes "limit") ≡ Some t → ReadsOne gives t value)
-    → value ≡ limit_asked (rows_of found)
-limit-read E gives parses found value none some =
-    go (one_text found (codes "limit")) refl
-    ∙ ap (option_and_then number_in) (one_text-rows found (codes "limit"))
+    (name : Text) (value : Option ℕ) → (one_text found name ≡ None → value ≡ None)
+    → ((t : List ℕ) → one_text found name ≡ Some t → ReadsOne gives t value)
+    → value ≡ number_asked name (rows_of found)
+number-read E gives parses found name value none some =
+    go (one_text found name) refl ∙ ap (option_and_then number_in) (one_text-rows found name)
   where
     reads : (t : List ℕ) (o : Option ℕ) → ReadsOne gives t o
         → ReadsOne (ParsesUnsigned {E = E} 64 10) t o
     reads t (Some v) is = parses t (Ok v) is
     reads t None is = (is.0, parses t (Err is.0) is.1)
 
-    go : (text : Option (List ℕ)) → one_text found (codes "limit") ≡ text
+    go : (text : Option (List ℕ)) → one_text found name ≡ text
         → value ≡ option_and_then number_in text
     go None is = none is
     go (Some t) is = number-of_text E t value (reads t value (some t is))
 
--- what is made of the queries that the matches hold
-pub with_queries : {X : Type 0} (make : List Text → X) (found : Found) (texts : Option (List Text))
-    → texts ≡ option_map raw_values (matched_of found (codes "QUERY"))
-    → option_map make texts ≡ option_map make (all_of (codes "QUERY") (rows_of found))
-with_queries make found texts held =
-    ap (option_map make) (held ∙ raw_values-rows found (codes "QUERY"))
+-- what is made of the words that the matches hold for a positional
+module _ (found : Found) (name : Text) (texts : Option (List Text))
+    (held : texts ≡ option_map raw_values (matched_of found name)) where
+  pub with_words : {X : Type 0} (make : List Text → X)
+      → option_map make texts ≡ option_map make (all_of name (rows_of found))
+  with_words make = ap (option_map make) (held ∙ raw_values-rows found name)
+
+  pub words-held : unwrap_or texts [] ≡ words_of name (rows_of found)
+  words-held = ap (λ ws. unwrap_or ws []) (held ∙ raw_values-rows found name)

@@ -1,19 +1,19 @@
 -- Queries that are read one by one, and the first that is refused.
-use Rattle.std.proofs.Common.{◌≡◌, ◌⊎◌, inl, inr, ℕ, ◌+◌, ◌<◌, List, [], ◌∷◌, ◌++◌, length, take, drop}
+use Rattle.std.proofs.Common.{ℕ, ◌+◌, ◌<◌, List, [], ◌∷◌, ◌++◌, length, take, drop}
 use Rattle.std.proofs.Common.{get_or, map, ap, sym, subst, ◌∙◌, suc, drop-cons}
 use Rattle.std.proofs.lemmas.List.{get_or-map, length-map, take-append-drop}
 use Rattle.jp_cells.proofs.Joining.{one-more}
 use Rattle.jp_check.specs.declared.profile.Profile.{Profile}
-use Rattle.jp_command.specs.Private.Faults.{fault_of_kind, fault_of_refusal}
-use Rattle.jp_command.specs.Run.{IsAsked, RanOut, RefusesQuery}
-use Rattle.jp_command.specs.declared.fault.Fault.{Fault}
+use Rattle.jp_command.specs.Run.{IsAsked, RefusesQuery}
+use Rattle.jp_command.specs.declared.fault.Fault.TheVariants as fault
+use Rattle.jp_command.specs.declared.fault.Fault.TheVariants.{Document, DocumentTooLarge, NoMemory, Read}
+use Rattle.jp_command.specs.declared.fault.Fault.TheVariants.{Write}
 use Rattle.jp_query.specs.declared.refusal.Refusal.{Refusal}
-use Rattle.jp_query.specs.declared.refusal.RefusalKind.{RefusalKind}
-use Rattle.jp_query.specs.declared.refusal.RefusalKind.TheVariants as kind
 use Rattle.jp_tree.specs.Tree.{QueryTree}
-use Rattle.jp_lines.specs.Private.Halting.{StopsReading}
+use Rattle.jp_lines.specs.Private.Halting.{StopsAtQuery, StopsReading}
 use Rattle.jp_lines.specs.Request.{AreAsked, RefusesFirst}
-use Rattle.jp_lines.specs.declared.stop.Stop.TheVariants.{Run}
+use Rattle.jp_lines.specs.declared.halt.Unbegun.{Unbegun}
+use Rattle.jp_lines.specs.declared.halt.Unbegun.TheVariants.{Expression, Fault, Query}
 
 module _ (profile : Profile) where
   asked-more : (ts : List (List ℕ)) (qs : List QueryTree) (t : List ℕ) (q : QueryTree)
@@ -52,19 +52,17 @@ module _ (profile : Profile) where
           refuses = refuses;
         }
 
-  stops-kind : (texts : List (List ℕ)) (k : RefusalKind) (r : Refusal) (text : List ℕ)
-      → RefusesFirst profile texts r text
-      → StopsReading profile texts (Run (fault_of_kind k r)) text
-  stops-kind texts kind.NoMemory r text first = tt
-  stops-kind texts _ r text first = first
-
   -- why no more queries are read
-  pub stops-reading : (texts : List (List ℕ)) (r : Refusal) (text : List ℕ) (fault : Fault)
-      → fault ≡ fault_of_refusal r → RanOut r ⊎ RefusesQuery profile text r
-      → (RefusesQuery profile text r → RefusesFirst profile texts r text)
-      → StopsReading profile texts (Run fault) text
-  stops-reading texts r text fault is (inl out) first =
-      subst (λ f. StopsReading profile texts (Run f) text) (sym (is ∙ ap fault_of_refusal out)) tt
-  stops-reading texts r text fault is (inr refuses) first =
-      subst (λ f. StopsReading profile texts (Run f) text) (sym is)
-      (stops-kind texts r.kind r text (first refuses))
+  pub stops-reading : (texts : List (List ℕ)) (text : List ℕ) (why : Unbegun)
+      → StopsAtQuery profile text why
+      → ((r : Refusal) → RefusesQuery profile text r → RefusesFirst profile texts r text)
+      → StopsReading profile texts why
+  stops-reading texts text (Query other r) stops first =
+      subst (λ t. RefusesFirst profile texts r t) (sym stops.0) (first r stops.1)
+  stops-reading texts text (Fault NoMemory) stops first = tt
+  stops-reading texts text (Fault Write) stops first = absurd stops
+  stops-reading texts text (Fault Read) stops first = absurd stops
+  stops-reading texts text (Fault (fault.Query r)) stops first = absurd stops
+  stops-reading texts text (Fault (Document d)) stops first = absurd stops
+  stops-reading texts text (Fault DocumentTooLarge) stops first = absurd stops
+  stops-reading texts text (Expression r) stops first = absurd stops

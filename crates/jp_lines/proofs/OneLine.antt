@@ -1,7 +1,6 @@
 -- Of an input that is one line, a run over lines is one over a document.
 use Rattle.std.proofs.Common.{◌≡◌, ℕ, suc, Bool, false, List, [], ◌∷◌, ◌++◌, Option, Some, None}
 use Rattle.std.proofs.Common.{subst, refl, sym, ◌∙◌, ap}
-use Rattle.std.proofs.Math.Bool.{or-false}
 use Rattle.std.proofs.lemmas.List.{append-nil}
 use Rattle.std.specs.Io.KnownBytes.{Consumes, IsAtEnd}
 use Rattle.jp_check.specs.declared.profile.Profile.{Profile}
@@ -14,8 +13,7 @@ use Rattle.jp_tree.specs.Tree.{QueryTree}
 use Rattle.jp_lines.specs.Laws.{OneLineIsADocument}
 use Rattle.jp_lines.specs.Lines.{is_blank_line, lines_of_input}
 use Rattle.jp_lines.specs.Outcome.{LineOutcome, ComesTo, ComeTo, none, one_more, blank, document}
-use Rattle.jp_lines.specs.Outcome.{defective, is_refused, lead_of}
-use Rattle.jp_lines.specs.Outcome.{some_refused}
+use Rattle.jp_lines.specs.Outcome.{defective, lead_of, refusal_in, refusals}
 use Rattle.jp_lines.specs.Outcome.{written_of, written_of_all}
 use Rattle.jp_lines.specs.Reads.{ReadsToEnd}
 use Rattle.jp_lines.specs.Task.{Select, Task, nodes_output}
@@ -23,6 +21,7 @@ use Rattle.jp_lines.specs.declared.options.Extent.TheVariants.{All}
 use Rattle.jp_lines.specs.declared.options.Options.{Options}
 use Rattle.jp_lines.specs.declared.options.Wanted.TheVariants.{Nodes}
 use Rattle.jp_lines.proofs.Outcomes.{heads, tails}
+use Rattle.jp_lines.proofs.Tallies.{none-counted}
 
 -- what was consumed up to the end is all
 consumed-all : (a b : Option (List ℕ)) (came bytes : List ℕ) → Consumes a b came → IsAtEnd b
@@ -66,7 +65,7 @@ module _ (profile : Profile) {R W E : Type 0} (remaining : R → Option (List �
   outcome-is : (form : Form) (options : Options) (q : QueryTree) (text bytes : List ℕ) (i j : R)
       (x : LineOutcome) → options.numbered ≡ false
       → IsAsked profile text q → ReadsToEnd remaining has_failed read_gives i j bytes
-      → is_blank_line bytes ≡ false → is_refused x ≡ false → ComesTo options (Select (Nodes form) All q) 1 bytes x
+      → is_blank_line bytes ≡ false → refusal_in x ≡ [] → ComesTo options (Select (Nodes form) All q) 1 bytes x
       → Output form text i j (written_of x)
   outcome-is form options q text bytes i j x numbered asked reads some unrefused (blank few is) = cc
   outcome-is form options q text bytes i j x numbered asked reads some unrefused
@@ -95,18 +94,21 @@ module _ (profile : Profile) {R W E : Type 0} (remaining : R → Option (List �
   one_line form options text bytes i j o p u v tally numbered works known single some runs =
       let q = runs.asked.0 in
       let task = Select (Nodes form) All q in
-      let same = consumed-all (remaining i) (remaining j) runs.bytes bytes runs.reads.came
-      runs.reads.ended known in
-      let come = subst (λ b. ComeTo options task 1 (lines_of_input b) runs.outcomes) same
-      (subst (λ t. ComeTo options t 1 (lines_of_input runs.bytes) runs.outcomes) runs.asked.1 runs.goes.come) in
-      let one = come-single options task 1 (lines_of_input bytes) runs.outcomes bytes come single in
-      let unrefused : is_refused one.0 ≡ false =
-      sym (or-false (is_refused one.0)) ∙ sym (ap some_refused one.1) ∙ sym runs.refused ∙ works in
+      let goes = runs.goes in
+      let same = consumed-all (remaining i) (remaining j) goes.bytes bytes goes.reads.came
+      goes.reads.ended known in
+      let come = subst (λ b. ComeTo options task 1 (lines_of_input b) goes.outcomes) same
+      (subst (λ t. ComeTo options t 1 (lines_of_input goes.bytes) goes.outcomes) runs.asked.1 goes.goes.come) in
+      let one = come-single options task 1 (lines_of_input bytes) goes.outcomes bytes come single in
+      let none : refusals (one.0 ∷ []) ≡ [] =
+      sym (ap refusals one.1)
+      ∙ none-counted goes.outcomes (sym (ap (λ t. t.refused) goes.counts) ∙ works) in
+      let unrefused : refusal_in one.0 ≡ [] = sym (append-nil (refusal_in one.0)) ∙ none in
       record {
         output = written_of one.0;
         is = outcome-is form options q text bytes i j one.0 numbered runs.asked.2
-            (subst (ReadsToEnd remaining has_failed read_gives i j) same runs.reads) some
+            (subst (ReadsToEnd remaining has_failed read_gives i j) same goes.reads) some
             unrefused one.2;
         writes = subst (WritesAll contents writes_failed o p)
-            (ap written_of_all one.1 ∙ append-nil (written_of one.0)) runs.goes.writes;
+            (ap written_of_all one.1 ∙ append-nil (written_of one.0)) goes.goes.writes;
       }

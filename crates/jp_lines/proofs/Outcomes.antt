@@ -1,17 +1,18 @@
 -- Outcomes of lines after those of the lines before.
-use Rattle.std.proofs.Common.{◌≡◌, ℕ, suc, ◌+◌, ◌<◌, ◌≤◌, Bool, true, false, ◌||◌, List, [], ◌∷◌}
-use Rattle.std.proofs.Common.{◌++◌, length, subst, refl, arith}
+use Rattle.std.proofs.Common.{◌≡◌, ℕ, suc, ◌+◌, ◌<◌, ◌≤◌, List, [], ◌∷◌}
+use Rattle.std.proofs.Common.{◌++◌, length, subst, arith}
 use Rattle.std.proofs.lemmas.List.{length-take, take_all}
 use Rattle.jp_command.specs.Limits.{document_limit}
 use Rattle.jp_lines.specs.Outcome.{LineOutcome, Refused, ComesTo, ComeTo, none, one_more}
 use Rattle.jp_lines.specs.Outcome.{IsDefective, IsRefusal, blank, document, no_document, defective}
 use Rattle.jp_lines.specs.Outcome.{steps_used_up, too_large}
-use Rattle.jp_lines.specs.Outcome.{is_refused, some_refused}
+use Rattle.jp_lines.specs.Outcome.{refusal_in, refusals}
 use Rattle.jp_lines.specs.Private.Passing.{kept_of}
 use Rattle.jp_lines.specs.Task.{Task}
 use Rattle.jp_lines.specs.declared.defect.Defect.{Defect}
 use Rattle.jp_lines.specs.declared.defect.RefusedLine.{RefusedLine}
 use Rattle.jp_lines.specs.declared.options.Options.{Options}
+use Rattle.jp_lines.proofs.Tallies.{both-none}
 
 -- a line that is not too large is kept whole
 pub kept-all : (l : List ℕ) → length (kept_of l) ≤ document_limit → kept_of l ≡ l
@@ -28,10 +29,6 @@ heads k l ks ls same = cc
 
 pub tails : (k l : List ℕ) (ks ls : List (List ℕ)) → k ∷ ks ≡ l ∷ ls → ks ≡ ls
 tails k l ks ls same = cc
-
-pub none_of : (a b : Bool) → (a || b) ≡ false → (a ≡ false) × (b ≡ false)
-none_of true b is = cc
-none_of false b is = (refl, is)
 
 module _ (options : Options) (task : Task) where
   pub come-one : (n : ℕ) (l : List ℕ) (x : LineOutcome) → ComesTo options task n l x
@@ -71,7 +68,7 @@ module _ (options : Options) (task : Task) where
   comes-kept n l x (defective d r has of) = refused-kept n l d r has of
 
   -- a line that is not refused is not too large
-  few-one : (n : ℕ) (l : List ℕ) (x : LineOutcome) → ComesTo options task n l x → is_refused x ≡ false
+  few-one : (n : ℕ) (l : List ℕ) (x : LineOutcome) → ComesTo options task n l x → refusal_in x ≡ []
       → length l ≤ document_limit
   few-one n l x (blank few is) unrefused = few
   few-one n l x (document d few some is) unrefused = few
@@ -79,13 +76,13 @@ module _ (options : Options) (task : Task) where
 
   -- and so the last one of lines that are not refused is not
   pub few-last : (n : ℕ) (ls : List (List ℕ)) (xs : List LineOutcome) (init : List (List ℕ))
-      (last : List ℕ) → ComeTo options task n ls xs → ls ≡ init ++ last ∷ [] → some_refused xs ≡ false
+      (last : List ℕ) → ComeTo options task n ls xs → ls ≡ init ++ last ∷ [] → refusals xs ≡ []
       → length last ≤ document_limit
   few-last n ls xs [] last (none m) is unrefused = cc
   few-last n ls xs (l ∷ init) last (none m) is unrefused = cc
   few-last n ls xs [] last (one_more m l more x rest comes come) is unrefused =
       subst (λ t. length t ≤ document_limit) (heads l last more [] is)
-      (few-one m l x comes (none_of (is_refused x) (some_refused rest) unrefused).0)
+      (few-one m l x comes (both-none (refusal_in x) (refusals rest) unrefused).0)
   few-last n ls xs (k ∷ init) last (one_more m l more x rest comes come) is unrefused =
       few-last (suc m) more rest init last come (tails l k more (init ++ last ∷ []) is)
-      (none_of (is_refused x) (some_refused rest) unrefused).1
+      (both-none (refusal_in x) (refusals rest) unrefused).1

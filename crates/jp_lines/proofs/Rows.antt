@@ -1,13 +1,14 @@
 -- What some command lines ask for.
-use Rattle.std.proofs.Common.{◌≡◌, [], ◌∷◌, true, false, Some, None, codes, refl}
+use Rattle.std.proofs.Common.{◌≡◌, [], ◌∷◌, true, false, List, ℕ, Option, Some, None, codes, refl}
 use Rattle.clap.proofs.OnLiterals.{clap_on_literals}
+use Rattle.jp_check.specs.declared.profile.Profile.{Profile}
 use Rattle.jp_check.specs.declared.profile.Profile.TheVariants.{Standard, Extended}
 use Rattle.jp_command.specs.CommandLine.{query_app}
-use Rattle.jp_command.specs.declared.lines.Form.TheVariants.{Values, Paths, Both}
-use Rattle.jp_cells.specs.declared.style.Format.TheVariants.{Csv}
+use Rattle.jp_command.specs.declared.lines.Form.TheVariants.{Values, Paths, Both, RawValues, RawBoth}
+use Rattle.jp_cells.specs.declared.style.Format.TheVariants.{Csv, Tabs}
 use Rattle.jp_lines.specs.CommandLine.{asked, columns_app, jp_lines, keep_app, lines_app, queries_app}
-use Rattle.jp_lines.specs.CommandLine.{with_columns, with_keep, with_selections}
-use Rattle.jp_lines.specs.Request.{ColumnsBy, KeepBy, SelectBy}
+use Rattle.jp_lines.specs.CommandLine.{values_app, with_columns, with_keep, with_selections}
+use Rattle.jp_lines.specs.Request.{ColumnsBy, Job, KeepBy, Request, SelectBy}
 use Rattle.jp_lines.specs.declared.options.Extent.TheVariants.{All, First}
 use Rattle.jp_lines.specs.declared.options.Options.{Options}
 use Rattle.jp_lines.specs.declared.options.Wanted.TheVariants.{Nodes, Count}
@@ -21,105 +22,157 @@ plain =
       line_buffered = false;
       explaining = false;
       exit_status = false;
+      summary = false;
+      reports = None;
       limit = None;
     }
 
+-- a job over these inputs
+abbrev over : List (List ℕ) → Options → Request → Profile → Option Job
+over inputs options request profile =
+    Some (record { options = options; request = request; inputs = inputs; profile = profile })
+
 values : asked (codes "jp-lines" ∷ codes "eval" ∷ codes "$" ∷ [])
-    ≡ Some (plain, SelectBy (Nodes Values) All (codes "$"), Standard)
-unfolding clap_on_literals jp_lines with_columns with_keep with_selections keep_app lines_app columns_app queries_app query_app
+    ≡ over [] plain (SelectBy (Nodes Values) All (codes "$")) Standard
+unfolding clap_on_literals jp_lines with_columns with_keep with_selections keep_app values_app lines_app columns_app queries_app query_app
 values = refl
 
 number_and_buffer :
     asked (codes "jp-lines" ∷ codes "both" ∷ codes "--number" ∷ codes "$"
     ∷ codes "--line-buffered" ∷ [])
-    ≡ Some (
-      record plain { numbered = true; line_buffered = true },
-      SelectBy (Nodes Both) All (codes "$"),
-      Standard,
-    )
-unfolding clap_on_literals jp_lines with_columns with_keep with_selections keep_app lines_app columns_app queries_app query_app
+    ≡ over [] (record plain { numbered = true; line_buffered = true }) (SelectBy (Nodes Both) All (codes "$")) Standard
+unfolding clap_on_literals jp_lines with_columns with_keep with_selections keep_app values_app lines_app columns_app queries_app query_app
 number_and_buffer = refl
 
 going_and_extended :
     asked (codes "jp-lines" ∷ codes "count" ∷ codes "--keep-going" ∷ codes "--extended"
     ∷ codes "$" ∷ [])
-    ≡ Some (record plain { keep_going = true }, SelectBy Count All (codes "$"), Extended)
-unfolding clap_on_literals jp_lines with_columns with_keep with_selections keep_app lines_app columns_app queries_app query_app
+    ≡ over [] (record plain { keep_going = true }) (SelectBy Count All (codes "$")) Extended
+unfolding clap_on_literals jp_lines with_columns with_keep with_selections keep_app values_app lines_app columns_app queries_app query_app
 going_and_extended = refl
 
 explaining : asked (codes "jp-lines" ∷ codes "eval" ∷ codes "$" ∷ codes "--explain" ∷ [])
-    ≡ Some (record plain { explaining = true }, SelectBy (Nodes Values) All (codes "$"), Standard)
-unfolding clap_on_literals jp_lines with_columns with_keep with_selections keep_app lines_app columns_app queries_app query_app
+    ≡ over [] (record plain { explaining = true }) (SelectBy (Nodes Values) All (codes "$")) Standard
+unfolding clap_on_literals jp_lines with_columns with_keep with_selections keep_app values_app lines_app columns_app queries_app query_app
 explaining = refl
 
 keeping :
     asked (codes "jp-lines" ∷ codes "keep" ∷ codes "@.a" ∷ codes "--keep-going" ∷ [])
-    ≡ Some (record plain { keep_going = true }, KeepBy (codes "@.a"), Standard)
-unfolding clap_on_literals jp_lines with_columns with_keep with_selections keep_app lines_app columns_app queries_app query_app
+    ≡ over [] (record plain { keep_going = true }) (KeepBy (codes "@.a")) Standard
+unfolding clap_on_literals jp_lines with_columns with_keep with_selections keep_app values_app lines_app columns_app queries_app query_app
 keeping = refl
 
 flag_twice :
     asked (codes "jp-lines" ∷ codes "count" ∷ codes "--number" ∷ codes "--number" ∷ codes "$" ∷ [])
     ≡ None
-unfolding clap_on_literals jp_lines with_columns with_keep with_selections keep_app lines_app columns_app queries_app query_app
+unfolding clap_on_literals jp_lines with_columns with_keep with_selections keep_app values_app lines_app columns_app queries_app query_app
 flag_twice = refl
 
 no_query : asked (codes "jp-lines" ∷ codes "eval" ∷ []) ≡ None
-unfolding clap_on_literals jp_lines with_columns with_keep with_selections keep_app lines_app columns_app queries_app query_app
+unfolding clap_on_literals jp_lines with_columns with_keep with_selections keep_app values_app lines_app columns_app queries_app query_app
 no_query = refl
 
 subcommand_of_another_program : asked (codes "jp-lines" ∷ codes "check" ∷ codes "$" ∷ []) ≡ None
-unfolding clap_on_literals jp_lines with_columns with_keep with_selections keep_app lines_app columns_app queries_app query_app
+unfolding clap_on_literals jp_lines with_columns with_keep with_selections keep_app values_app lines_app columns_app queries_app query_app
 subcommand_of_another_program = refl
 
 limit :
     asked (codes "jp-lines" ∷ codes "eval" ∷ codes "--limit" ∷ codes "10000" ∷ codes "$" ∷ [])
-    ≡ Some (record plain { limit = Some 10000 }, SelectBy (Nodes Values) All (codes "$"), Standard)
-unfolding clap_on_literals jp_lines with_columns with_keep with_selections keep_app lines_app columns_app queries_app query_app
+    ≡ over [] (record plain { limit = Some 10000 }) (SelectBy (Nodes Values) All (codes "$")) Standard
+unfolding clap_on_literals jp_lines with_columns with_keep with_selections keep_app values_app lines_app columns_app queries_app query_app
 limit = refl
 
 greatest_limit :
     asked (codes "jp-lines" ∷ codes "count" ∷ codes "$" ∷ codes "--limit=18446744073709551615" ∷ [])
-    ≡ Some (record plain { limit = Some 18446744073709551615 }, SelectBy Count All (codes "$"), Standard)
-unfolding clap_on_literals jp_lines with_columns with_keep with_selections keep_app lines_app columns_app queries_app query_app
+    ≡ over [] (record plain { limit = Some 18446744073709551615 }) (SelectBy Count All (codes "$")) Standard
+unfolding clap_on_literals jp_lines with_columns with_keep with_selections keep_app values_app lines_app columns_app queries_app query_app
 greatest_limit = refl
 
 limit_of_none :
     asked (codes "jp-lines" ∷ codes "eval" ∷ codes "--limit" ∷ codes "0" ∷ codes "$" ∷ []) ≡ None
-unfolding clap_on_literals jp_lines with_columns with_keep with_selections keep_app lines_app columns_app queries_app query_app
+unfolding clap_on_literals jp_lines with_columns with_keep with_selections keep_app values_app lines_app columns_app queries_app query_app
 limit_of_none = refl
 
 limit_too_great :
     asked (codes "jp-lines" ∷ codes "eval" ∷ codes "--limit" ∷ codes "18446744073709551616"
     ∷ codes "$" ∷ []) ≡ None
-unfolding clap_on_literals jp_lines with_columns with_keep with_selections keep_app lines_app columns_app queries_app query_app
+unfolding clap_on_literals jp_lines with_columns with_keep with_selections keep_app values_app lines_app columns_app queries_app query_app
 limit_too_great = refl
 
 first_and_status :
     asked (codes "jp-lines" ∷ codes "paths" ∷ codes "--first" ∷ codes "$" ∷ codes "--exit-status" ∷ [])
-    ≡ Some (
-      record plain { exit_status = true },
-      SelectBy (Nodes Paths) First (codes "$"),
-      Standard,
-    )
-unfolding clap_on_literals jp_lines with_columns with_keep with_selections keep_app lines_app columns_app queries_app query_app
+    ≡ over [] (record plain { exit_status = true }) (SelectBy (Nodes Paths) First (codes "$")) Standard
+unfolding clap_on_literals jp_lines with_columns with_keep with_selections keep_app values_app lines_app columns_app queries_app query_app
 first_and_status = refl
 
 columns :
     asked (codes "jp-lines" ∷ codes "columns" ∷ codes "$.a" ∷ codes "--csv" ∷ codes "$.b"
     ∷ codes "--names" ∷ codes "--keep-going" ∷ [])
-    ≡ Some (
-      record plain { keep_going = true },
-      ColumnsBy (record { format = Csv; raw = false }) true (codes "$.a" ∷ codes "$.b" ∷ []),
-      Standard,
-    )
-unfolding clap_on_literals jp_lines with_columns with_keep with_selections keep_app lines_app columns_app queries_app query_app
+    ≡ over [] (record plain { keep_going = true }) (ColumnsBy (record { format = Csv; raw = false }) true (codes "$.a" ∷ codes "$.b" ∷ [])) Standard
+unfolding clap_on_literals jp_lines with_columns with_keep with_selections keep_app values_app lines_app columns_app queries_app query_app
 columns = refl
 
 columns_of_no_query : asked (codes "jp-lines" ∷ codes "columns" ∷ codes "--raw" ∷ []) ≡ None
-unfolding clap_on_literals jp_lines with_columns with_keep with_selections keep_app lines_app columns_app queries_app query_app
+unfolding clap_on_literals jp_lines with_columns with_keep with_selections keep_app values_app lines_app columns_app queries_app query_app
 columns_of_no_query = refl
 
 csv_of_another_command : asked (codes "jp-lines" ∷ codes "eval" ∷ codes "--csv" ∷ codes "$" ∷ []) ≡ None
-unfolding clap_on_literals jp_lines with_columns with_keep with_selections keep_app lines_app columns_app queries_app query_app
+unfolding clap_on_literals jp_lines with_columns with_keep with_selections keep_app values_app lines_app columns_app queries_app query_app
 csv_of_another_command = refl
+
+two_files :
+    asked (codes "jp-lines" ∷ codes "count" ∷ codes "$" ∷ codes "a" ∷ codes "--summary" ∷ codes "-" ∷ [])
+    ≡ over (codes "a" ∷ codes "-" ∷ []) (record plain { summary = true }) (SelectBy Count All (codes "$"))
+    Standard
+unfolding clap_on_literals jp_lines with_columns with_keep with_selections keep_app values_app lines_app columns_app queries_app query_app
+two_files = refl
+
+keeping_in_a_file :
+    asked (codes "jp-lines" ∷ codes "keep" ∷ codes "@.a" ∷ codes "x.jsonl" ∷ [])
+    ≡ over (codes "x.jsonl" ∷ []) plain (KeepBy (codes "@.a")) Standard
+unfolding clap_on_literals jp_lines with_columns with_keep with_selections keep_app values_app lines_app columns_app queries_app query_app
+keeping_in_a_file = refl
+
+columns_and_files :
+    asked (codes "jp-lines" ∷ codes "columns" ∷ codes "$.a" ∷ codes "$.b" ∷ codes "x" ∷ codes "$y" ∷ [])
+    ≡ over (codes "x" ∷ codes "$y" ∷ []) plain
+    (ColumnsBy (record { format = Tabs; raw = false }) false (codes "$.a" ∷ codes "$.b" ∷ [])) Standard
+unfolding clap_on_literals jp_lines with_columns with_keep with_selections keep_app values_app lines_app columns_app queries_app query_app
+columns_and_files = refl
+
+first_word_of_columns :
+    asked (codes "jp-lines" ∷ codes "columns" ∷ codes "x" ∷ codes "$.b" ∷ codes "./$y" ∷ [])
+    ≡ over (codes "./$y" ∷ []) plain
+    (ColumnsBy (record { format = Tabs; raw = false }) false (codes "x" ∷ codes "$.b" ∷ [])) Standard
+unfolding clap_on_literals jp_lines with_columns with_keep with_selections keep_app values_app lines_app columns_app queries_app query_app
+first_word_of_columns = refl
+
+raw_values :
+    asked (codes "jp-lines" ∷ codes "eval" ∷ codes "--raw" ∷ codes "$" ∷ [])
+    ≡ over [] plain (SelectBy (Nodes RawValues) All (codes "$")) Standard
+unfolding clap_on_literals jp_lines with_columns with_keep with_selections keep_app values_app lines_app columns_app queries_app query_app
+raw_values = refl
+
+raw_both :
+    asked (codes "jp-lines" ∷ codes "both" ∷ codes "$" ∷ codes "--raw" ∷ codes "x" ∷ [])
+    ≡ over (codes "x" ∷ []) plain (SelectBy (Nodes RawBoth) All (codes "$")) Standard
+unfolding clap_on_literals jp_lines with_columns with_keep with_selections keep_app values_app lines_app columns_app queries_app query_app
+raw_both = refl
+
+raw_paths : asked (codes "jp-lines" ∷ codes "paths" ∷ codes "--raw" ∷ codes "$" ∷ []) ≡ None
+unfolding clap_on_literals jp_lines with_columns with_keep with_selections keep_app values_app lines_app columns_app queries_app query_app
+raw_paths = refl
+
+no_reports :
+    asked (codes "jp-lines" ∷ codes "eval" ∷ codes "$" ∷ codes "--keep-going" ∷ codes "--reports"
+    ∷ codes "0" ∷ [])
+    ≡ over [] (record plain { keep_going = true; reports = Some 0 })
+    (SelectBy (Nodes Values) All (codes "$")) Standard
+unfolding clap_on_literals jp_lines with_columns with_keep with_selections keep_app values_app lines_app columns_app queries_app query_app
+no_reports = refl
+
+reports_too_many :
+    asked (codes "jp-lines" ∷ codes "eval" ∷ codes "--reports=18446744073709551616" ∷ codes "$" ∷ [])
+    ≡ None
+unfolding clap_on_literals jp_lines with_columns with_keep with_selections keep_app values_app lines_app columns_app queries_app query_app
+reports_too_many = refl

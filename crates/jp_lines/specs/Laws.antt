@@ -26,7 +26,7 @@ module _ (profile : Profile) {R W E : Type 0} (remaining : R → Option (List �
   -- no numbers says what a run over the document says.
   abbrev pub OneLineIsADocument : Type 0
   OneLineIsADocument = (form : Form) (options : Options) (text bytes : List ℕ) (i j : R) (o p : W)
-      (u v : E) (tally : Tally) → options.numbered ≡ false → tally.refused ≡ false
+      (u v : E) (tally : Tally) → options.numbered ≡ false → tally.refused ≡ 0
       → remaining i ≡ Some bytes → lines_of_input bytes ≡ bytes ∷ [] → is_blank_line bytes ≡ false
       → RunsLines profile options remaining has_failed read_gives contents writes_failed reports
       reports_failed (SelectBy (Nodes form) All text) i j o p u v (Ok tally)

@@ -10,6 +10,9 @@ pub mod Told
 pub mod Run
 pub mod CommandLine
 pub mod Expression
+pub mod Inputs
+pub mod Files
+pub mod Closing
 pub mod Program
 pub mod Laws
 pub mod Private

@@ -1,8 +1,9 @@
 -- What the lines of an input come to: a document with what is written of it, nothing, or a defect.
-use Rattle.std.specs.Prelude.{◌≡◌, ◌≢◌, ◌⊎◌, ℕ, suc, ◌<◌, ◌≤◌, Bool, true, false, List, [], ◌∷◌}
-use Rattle.std.specs.Prelude.{◌++◌, Some, length, codes, if◌then◌else◌, string_bytes}
+use Rattle.std.specs.Prelude.{◌≡◌, ◌≢◌, ◌⊎◌, ℕ, suc, ◌+◌, ◌-◌, ◌<◌, ◌≤◌, ◌==◌, Bool, true, false, List}
+use Rattle.std.specs.Prelude.{[], ◌∷◌, ◌++◌, Option, Some, None, length, codes, if◌then◌else◌}
+use Rattle.std.specs.Prelude.{string_bytes, take}
 use Rattle.std.specs.Fmt.{decimal}
-use Rattle.std.specs.List.{flat_map, list_any}
+use Rattle.std.specs.List.{flat_map}
 use Rattle.jp_document.specs.Document.{IsDocument, IsDocumentFault}
 use Rattle.jp_document.specs.Faults.{document_fault_text}
 use Rattle.jp_document.specs.Value.{Value}
@@ -12,12 +13,16 @@ use Rattle.jp_command.specs.Limits.{document_limit}
 use Rattle.jp_json.specs.Misreading.{IsMisreading}
 use Rattle.jp_json.specs.Told.{misreading_text}
 use Rattle.jp_json.specs.declared.misreading.Misreading.{Misreading}
+use Rattle.jp_json.specs.declared.reason.JsonReason.{JsonReason}
+use Rattle.jp_json.specs.declared.reason.JsonReason.TheVariants.{AfterValue, EndInArray, EndInObject}
+use Rattle.jp_json.specs.declared.reason.JsonReason.TheVariants.{Unexpected}
 use Rattle.jp_lines.specs.Lines.{is_blank_line}
-use Rattle.jp_lines.specs.Task.{Task, mark_behind_number, selects, written_for}
+use Rattle.jp_lines.specs.Task.{Task, mark_behind_number, selected_in, written_for}
 use Rattle.jp_lines.specs.declared.defect.Defect.{Defect}
 use Rattle.jp_lines.specs.declared.defect.Defect.TheVariants.{Document, TooLarge, StepsUsedUp}
 use Rattle.jp_lines.specs.declared.defect.RefusedLine.{RefusedLine}
 use Rattle.jp_lines.specs.declared.options.Options.{Options}
+use Rattle.jp_lines.specs.declared.tally.Tally.{Tally}
 
 -- ---- texts
 
@@ -38,47 +43,88 @@ lead_of mark numbered number = if numbered then decimal number ++ mark ∷ [] el
 -- ---- outcomes
 
 pub data LineOutcome : Type 0 where
-  -- whether something is selected, and what is written
-  Answered : Bool → List ℕ → LineOutcome
+  -- it holds no document
+  Blank : LineOutcome
+  -- how many nodes are selected in its document, or whether it is kept, and what is written
+  Answered : ℕ → List ℕ → LineOutcome
   Refused : RefusedLine → LineOutcome
 
 -- what is written of a line
 abbrev pub written_of : LineOutcome → List ℕ
-written_of (Answered selected output) = output
-written_of (Refused r) = []
+written_of (Answered count output) = output
+written_of _ = []
 
--- what is told of it: of a refusal, its line, and behind that what explains it
-abbrev pub told_of : LineOutcome → List ℕ
-told_of (Answered selected output) = []
-told_of (Refused r) = refused_text r ++ (codes "\n" ++ string_bytes r.explanation)
-
-abbrev pub is_refused : LineOutcome → Bool
-is_refused (Answered selected output) = false
-is_refused (Refused r) = true
-
-abbrev pub is_selecting : LineOutcome → Bool
-is_selecting (Answered selected output) = selected
-is_selecting (Refused r) = false
-
--- what is written and told of all, one after the other, whether some are refused, and whether
--- something is selected in some
+-- what is written of all, one after the other
 abbrev pub written_of_all : List LineOutcome → List ℕ
 written_of_all xs = flat_map written_of xs
 
-abbrev pub told_of_all : List LineOutcome → List ℕ
-told_of_all xs = flat_map told_of xs
+-- what is told of a refusal behind what the reports of an input begin with: its line, and behind that
+-- what explains it
+abbrev pub told_of : List ℕ → RefusedLine → List ℕ
+told_of lead r = lead ++ (refused_text r ++ (codes "\n" ++ string_bytes r.explanation))
 
-abbrev pub some_refused : List LineOutcome → Bool
-some_refused xs = list_any is_refused xs
+abbrev pub refusal_in : LineOutcome → List RefusedLine
+refusal_in (Refused r) = r ∷ []
+refusal_in _ = []
 
-abbrev pub some_selected : List LineOutcome → Bool
-some_selected xs = list_any is_selecting xs
+-- the refusals among outcomes
+abbrev pub refusals : List LineOutcome → List RefusedLine
+refusals xs = flat_map refusal_in xs
+
+-- all of these refusals, or the first so many
+abbrev pub first_of_them : Option ℕ → List RefusedLine → List RefusedLine
+first_of_them None rs = rs
+first_of_them (Some most) rs = take most rs
+
+-- how many may be told still, where so many are refused before
+abbrev pub left_after : ℕ → Option ℕ → Option ℕ
+left_after refused None = None
+left_after refused (Some most) = Some (most - refused)
+
+-- what is told of all, of which so many are told at most
+abbrev pub told_of_all : List ℕ → Option ℕ → List LineOutcome → List ℕ
+told_of_all lead most xs = flat_map (told_of lead) (first_of_them most (refusals xs))
+
+-- what one outcome counts: a document that is answered, with what is selected in it, or a refusal
+abbrev pub tally_in : LineOutcome → Tally
+tally_in Blank = record { documents = 0; refused = 0; selected = 0 }
+tally_in (Answered count output) = record { documents = 1; refused = 0; selected = count }
+tally_in (Refused r) = record { documents = 0; refused = 1; selected = 0 }
+
+-- two tallies as one
+abbrev pub plus : Tally → Tally → Tally
+plus a b = record {
+  documents = a.documents + b.documents;
+  refused = a.refused + b.refused;
+  selected = a.selected + b.selected;
+}
+
+-- what outcomes count
+abbrev pub tally_of : List LineOutcome → Tally
+tally_of [] = record { documents = 0; refused = 0; selected = 0 }
+tally_of (x ∷ xs) = plus (tally_in x) (tally_of xs)
+
+-- a record separator stands at the front (RFC 7464 section 2.2)
+abbrev pub begins_record : List ℕ → Bool
+begins_record [] = false
+begins_record (byte ∷ bytes) = byte == 30
+
+-- What is said more of a line that is misread, where it shows another form than one document a line:
+-- several documents on a line, one that goes over several lines, or JSON text sequences (RFC 7464).
+abbrev pub hint_of : JsonReason → List ℕ → List ℕ
+hint_of AfterValue line = codes " Each line holds one document."
+hint_of EndInArray line = codes " A document ends with its line: jq -c . writes each on one."
+hint_of EndInObject line = codes " A document ends with its line: jq -c . writes each on one."
+hint_of Unexpected line = if begins_record line
+    then codes " A record separator (RFC 7464) stands before the document: tr -d '\\036' takes it away."
+    else []
+hint_of _ line = []
 
 -- the text says how the line is misread, at the input's line of that number, and a newline ends it
 pub record IsMisreadAs (number : ℕ) (line text : List ℕ) : Type 0 where
   pub m : Misreading
   pub misread : IsMisreading line m
-  pub is : text ≡ misreading_text (record m { line = number }) ++ codes "\n"
+  pub is : text ≡ misreading_text (record m { line = number }) ++ (hint_of m.reason line ++ codes "\n")
 
 -- what is told behind a defect of the line: of one that is no document, where that is asked for, how it
 -- is misread, unless memory ran out for it; and else nothing
@@ -110,11 +156,11 @@ module _ (options : Options) (task : Task) where
   -- the line of that number comes to this
   pub data ComesTo (number : ℕ) (line : List ℕ) : LineOutcome → Type 0 where
     blank : length line ≤ document_limit → is_blank_line line ≡ true
-        → ComesTo number line (Answered false [])
+        → ComesTo number line Blank
     document : (d : Value) → length line ≤ document_limit → is_blank_line line ≡ false
         → IsDocument line d
         → ComesTo number line
-        (Answered (selects task d)
+        (Answered (selected_in task d)
         (written_for task (lead_of (mark_behind_number task) options.numbered number) line d))
     defective : (defect : Defect) (r : RefusedLine) → IsDefective options line defect
         → IsRefusal options number line defect r → ComesTo number line (Refused r)

@@ -3,6 +3,7 @@
 pub mod Answers
 pub mod Limits
 pub mod Halting
+pub mod Opening
 pub mod Passing
 pub mod Treating
 pub mod Asking

@@ -8,6 +8,7 @@ use Rattle.jp_tree.specs.Tree.{ExprTree, QueryTree}
 use Rattle.jp_lines.specs.Expression.{IsFilterAsked, RefusesFilter}
 use Rattle.jp_lines.specs.Task.{Keep, Select, Tabulate, Task}
 use Rattle.jp_lines.specs.declared.options.Extent.{Extent}
+use Rattle.jp_lines.specs.declared.options.Options.{Options}
 use Rattle.jp_lines.specs.declared.options.Wanted.{Wanted}
 
 pub data Request : Type 0 where
@@ -51,8 +52,10 @@ RefusesRequest profile (KeepBy text) r = RefusesFilter profile text r
 RefusesRequest profile (ColumnsBy style named texts) r =
     (text : List ℕ) × RefusesFirst profile texts r text
 
--- the text of the query or the expression that is refused with r
-abbrev pub IsRefusedText : Profile → Request → Refusal → List ℕ → Type 0
-IsRefusedText profile (SelectBy wanted extent query) r text = text ≡ query
-IsRefusedText profile (KeepBy expression) r text = text ≡ expression
-IsRefusedText profile (ColumnsBy style named texts) r text = RefusesFirst profile texts r text
+-- what the words of a command line ask for: the inputs are named in order, and none stands for the
+-- standard input alone
+pub record Job : Type 0 where
+  pub options : Options
+  pub request : Request
+  pub inputs : List (List ℕ)
+  pub profile : Profile

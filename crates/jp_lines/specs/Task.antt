@@ -1,15 +1,15 @@
--- What a run does with each document: what is written of it, and whether something in it is selected.
+-- What a run does with each document: what is written of it, and how many nodes in it are selected.
 use Rattle.std.specs.Prelude.{ℕ, Bool, List, [], ◌++◌, codes, if◌then◌else◌, length, take}
 use Rattle.std.specs.Fmt.{decimal}
 use Rattle.std.specs.List.{flat_map}
 use Rattle.jp_command.specs.Lines.{line_behind}
 use Rattle.jp_reading.specs.Characters.{tab}
-use Rattle.jp_cells.specs.Columns.{columns_text, some_node_in}
+use Rattle.jp_cells.specs.Columns.{columns_text, nodes_in}
 use Rattle.jp_cells.specs.Rows.{separator}
 use Rattle.jp_cells.specs.declared.style.Style.{Style}
 use Rattle.jp_document.specs.Node.{Node, root_of}
 use Rattle.jp_document.specs.Value.{Value}
-use Rattle.jp_evaluate.specs.Nodelist.{has_node, holds, nodelist}
+use Rattle.jp_evaluate.specs.Nodelist.{holds, nodelist}
 use Rattle.jp_tree.specs.Tree.{ExprTree, QueryTree}
 use Rattle.jp_lines.specs.declared.options.Extent.{Extent}
 use Rattle.jp_lines.specs.declared.options.Extent.TheVariants.{All, First}
@@ -54,8 +54,8 @@ written_for (Keep e) lead line d =
     if is_kept e d then lead ++ (line ++ codes "\n") else []
 written_for (Tabulate style qs) lead line d = lead ++ columns_text style qs d
 
--- something is selected in the document d, or the document is kept
-abbrev pub selects : Task → Value → Bool
-selects (Select wanted extent q) d = has_node (nodelist q d)
-selects (Keep e) d = is_kept e d
-selects (Tabulate style qs) d = some_node_in d qs
+-- how many nodes are selected in the document d, or whether it is kept
+abbrev pub selected_in : Task → Value → ℕ
+selected_in (Select wanted extent q) d = length (nodes_within extent (nodelist q d))
+selected_in (Keep e) d = if is_kept e d then 1 else 0
+selected_in (Tabulate style qs) d = nodes_in d qs

@@ -1,9 +1,10 @@
 -- What the program's tasks and requests stand for.
 use Rattle.std.specs.Prelude.{map}
 use Rattle.jp_tree.specs.Views.{expr_of, query_of}
-use Rattle.jp_lines.specs.Request.{ColumnsBy, KeepBy, Request, SelectBy}
+use Rattle.jp_lines.specs.Request.{ColumnsBy, Job, KeepBy, Request, SelectBy}
 use Rattle.jp_lines.specs.Task.{Keep, Select, Tabulate, Task}
 use Rattle.jp_lines.specs.declared.task.Columns as columns
+use Rattle.jp_lines.specs.declared.task.Job as job
 use Rattle.jp_lines.specs.declared.task.Request as request
 use Rattle.jp_lines.specs.declared.task.Request.TheVariants as requests
 use Rattle.jp_lines.specs.declared.task.Selection as selection
@@ -28,3 +29,11 @@ request_of (requests.SelectBy wanted extent query) = SelectBy wanted extent quer
 request_of (requests.KeepBy text) = KeepBy text.now
 request_of (requests.ColumnsBy style named texts) =
     ColumnsBy style named (map (λ t. t.now) texts.items)
+
+abbrev pub job_of : job.Job → Job
+job_of asked = record {
+  options = asked.options;
+  request = request_of asked.request;
+  inputs = map (λ t. t.now) asked.inputs.items;
+  profile = asked.profile;
+}

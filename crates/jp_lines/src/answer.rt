@@ -27,13 +27,18 @@ pub(crate) struct Asked<'q> {
     pub(crate) alloc: Global,
     pub(crate) task: Task<'q>,
     pub(crate) options: Options,
+    /// What the reports of this input begin with: its name, a colon and a space, or nothing.
+    pub(crate) lead: &'q str,
 }
 
 /// What a line comes to.
 #[derive(Drop)]
 pub(crate) enum Reply {
-    /// All that is to be written of it is written; whether something in it is selected.
-    Written(bool),
+    /// It holds no document.
+    Blank,
+    /// All that is to be written of its document is written; how many nodes are selected in it, or 1 where
+    /// it is kept.
+    Written(u64),
     /// It is refused, and nothing is written of it.
     Refused(Defect),
 }
@@ -87,7 +92,7 @@ pub(crate) fn answer<W: Writer>(
         return Ok(Reply::Refused(Defect::TooLarge));
     }
     if is_blank_line(line) {
-        return Ok(Reply::Written(false));
+        return Ok(Reply::Blank);
     }
     match asked.task {
         Task::Select(selection) => match selection.location {
@@ -101,7 +106,7 @@ pub(crate) fn answer<W: Writer>(
     }
 }
 
-/// The same of a line that is not blank, where the query names the location: the value there is
+/// Answers a line that is not blank, where the query names the location: the value there is
 /// found while the document is read.
 fn answer_at<W: Writer>(
     asked: Asked<'_>,
@@ -139,7 +144,7 @@ fn answer_at<W: Writer>(
     }
 }
 
-/// The same of a line that is not blank, whatever the query: the whole document is read.
+/// Answers a line that is not blank, whatever the query: the whole document is read.
 fn answer_whole<W: Writer>(
     asked: Asked<'_>,
     number: u64,

@@ -1,20 +1,29 @@
 //! What is told behind the refusal of a line.
 
-ghost use Rattle.std.specs.Prelude.{IfOk, IfSome, string_bytes};
-ghost use Rattle.jp_lines.specs.Outcome.{IsMisreadAs, IsToldBehind};
+ghost use Rattle.std.specs.Prelude.{◌≡◌, IfOk, IfSome, string_bytes};
+ghost use Rattle.jp_lines.specs.Outcome.{IsMisreadAs, IsToldBehind, hint_of};
 
 use crate::answer::Asked;
 use crate::defect::Defect;
-use jp_json::{Misreading, find_misreading};
+use jp_json::{JsonReason, Misreading, find_misreading};
 use std::alloc::{AllocError, Global};
 
-/// What is told behind the defect of a line: why and where it is no document, where that is asked for,
-/// and else nothing, as where there is no memory for it.
-pub(crate) fn explanation(asked: Asked<'_>, number: u64, line: &[u8], defect: &Defect) -> String
+/// U+001E, which begins each text of a JSON text sequence (RFC 7464 section 2.2).
+const RECORD_SEPARATOR: u8 = 0x1e;
+
+/// What is told behind the defect of a line that is told: why and where it is no document, where that is
+/// asked for, and else nothing, as where there is no memory for it.
+pub(crate) fn explanation(
+    asked: Asked<'_>,
+    is_told: bool,
+    number: u64,
+    line: &[u8],
+    defect: &Defect,
+) -> String
     ensures { IsToldBehind asked.entry.options number line.now defect.now (string_bytes result) }
 {
     match defect {
-        Defect::Document(_) if asked.options.explaining => {
+        Defect::Document(_) if is_told && asked.options.explaining => {
             match misread_line(asked.alloc, number, line) {
                 Ok(Some(told)) => told,
                 _ => String::new(asked.alloc),
@@ -31,12 +40,29 @@ fn misread_line(alloc: Global, number: u64, line: &[u8]) -> Result<Option<String
 {
     match find_misreading(alloc, line)? {
         Some(misreading) => {
+            let hint = hint(misreading.reason, line);
             let told = Misreading {
                 line: number as usize,
                 ..misreading
             };
-            Ok(Some(format!(in alloc; "{told}\n")?))
+            Ok(Some(format!(in alloc; "{told}{hint}\n")?))
         }
         None => Ok(None),
+    }
+}
+
+/// What is said more of a line that shows another form than one document a line, behind a space.
+fn hint(reason: JsonReason, line: &[u8]) -> &'static str
+    ensures { result.now ≡ hint_of reason line.now }
+{
+    match reason {
+        JsonReason::AfterValue => " Each line holds one document.",
+        JsonReason::EndInArray | JsonReason::EndInObject => {
+            " A document ends with its line: jq -c . writes each on one."
+        }
+        JsonReason::Unexpected if line.first() == Some(&RECORD_SEPARATOR) => {
+            " A record separator (RFC 7464) stands before the document: tr -d '\\036' takes it away."
+        }
+        _ => "",
     }
 }

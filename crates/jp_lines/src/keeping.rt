@@ -4,7 +4,7 @@ ghost use Rattle.std.specs.Prelude.{◌++◌, IfErr, IfOk, OnOk, codes};
 ghost use Rattle.jp_tree.specs.Views.{expr_of};
 ghost use Rattle.jp_command.specs.Output.{StopsWriting, WritesAll};
 ghost use Rattle.jp_lines.specs.Private.Limits.{WritesOrGivesUp};
-ghost use Rattle.jp_lines.specs.Task.{Keep, is_kept, written_for};
+ghost use Rattle.jp_lines.specs.Task.{Keep, selected_in, written_for};
 
 use crate::answer::{Asked, Reply};
 use crate::wanted::{allowed_by, stop_of, write_bytes, write_text};
@@ -25,7 +25,7 @@ pub(crate) fn write_kept<'d: 'q, 'q, V: Selectable + 'd, W: Writer>(
     output: &mut W,
 ) -> Result<Reply, Fault>
     ensures ok { IfOk result (WritesOrGivesUp W.contents W.has_failed asked.entry.options.limit
-        (is_kept (expr_of filter.entry.now.expr) (V.meaning root))
+        (selected_in (Keep (expr_of filter.entry.now.expr)) (V.meaning root))
         (written_for (Keep (expr_of filter.entry.now.expr)) lead.now line.now (V.meaning root))
         output.old output.new) }
     ensures stopped { IfErr result (StopsWriting W.contents W.has_failed output.old output.new
@@ -36,9 +36,9 @@ pub(crate) fn write_kept<'d: 'q, 'q, V: Selectable + 'd, W: Writer>(
     match holds_of(asked.alloc, root, filter, &Marks, patterns, &mut steps) {
         Ok(true) => {
             write_line(lead, line, output)?;
-            Ok(Reply::Written(true))
+            Ok(Reply::Written(1))
         }
-        Ok(false) => Ok(Reply::Written(false)),
+        Ok(false) => Ok(Reply::Written(0)),
         Err(fault) => stop_of(fault, allowed.left() - steps.left()),
     }
 }

@@ -12,21 +12,32 @@
 //! over one document may make. `specs/Task.antt` says what is written of a document, `specs/Run.antt`
 //! what `run_lines` says with each answer, by the outcomes of lines in `specs/Outcome.antt`, and
 //! `specs/Lines.antt` what the lines of an input are. `run_program` is the whole program `jp-lines`
-//! over its words; `specs/Program.antt` has what it says with each status.
+//! over its words and over inputs that an `Inputs` opens by their names, as an `Opener` does in a process;
+//! `specs/Program.antt` has what it says with each status, by how it went over its inputs
+//! (`specs/Inputs.antt`) and what it tells at the end (`specs/Closing.antt`).
 #![tactic(auto)]
 
 mod answer;
+mod closing;
+mod commands;
 mod count;
 mod defect;
 mod explaining;
 mod expression;
+mod files;
+mod halt;
+mod help;
+mod inputs;
 mod keeping;
 pub mod laws;
+mod opening;
 mod options;
 mod passing;
 mod program;
 mod reading;
 mod run;
+mod runs;
+mod status;
 mod stop;
 mod tally;
 mod task;
@@ -38,6 +49,8 @@ mod wanted;
 mod words;
 
 pub use defect::{Defect, RefusedLine};
+pub use files::{Opened, Opener};
+pub use inputs::{Inputs, Unopened};
 pub use options::{Options, Wanted};
 pub use program::run_program;
 pub use run::run_lines;

@@ -1,5 +1,8 @@
 //! What is asked of a run.
 
+ghost use Rattle.std.specs.Prelude.{◌≡◌};
+ghost use Rattle.jp_lines.specs.Outcome.{left_after};
+
 use jp_command::Form;
 
 /// What is written of each document.
@@ -32,6 +35,22 @@ pub struct Options {
     pub explaining: bool,
     /// Whether the program's status tells that nothing was selected.
     pub exit_status: bool,
+    /// Whether the program tells at the end what the run counts.
+    pub summary: bool,
+    /// How many refused lines after which a run goes on are told one by one at most; None: all.
+    pub reports: Option<u64>,
     /// The most steps that the evaluation over one document may make; None: as many as it takes.
     pub limit: Option<u64>,
+}
+
+impl Options {
+    /// How many refused lines may be told still, where so many are refused before; None: all.
+    pub(crate) fn reports_left(self, refused: u64) -> Option<u64>
+        ensures { result ≡ left_after refused self.reports }
+    {
+        match self.reports {
+            None => None,
+            Some(most) => Some(most.saturating_sub(refused)),
+        }
+    }
 }

@@ -3,8 +3,9 @@
 ghost use Rattle.std.specs.Prelude.{◌≡◌, ◌≤◌, ◌++◌, [], List, ℕ, IfErr, OnOk, false, length};
 ghost use Rattle.jp_command.specs.Limits.{document_limit};
 ghost use Rattle.jp_lines.specs.Private.Answers.{HasNamedLocation};
-ghost use Rattle.jp_lines.specs.Private.Passing.{EndsLine, Keeps, PassesOn, StopsPassing, kept_of};
-ghost use Rattle.jp_lines.specs.Private.Treating.{StopsEnding};
+ghost use Rattle.jp_lines.specs.Outcome.{tally_of};
+ghost use Rattle.jp_lines.specs.Private.Passing.{EndsLine, Keeps, PassesOn, StopsEnding, StopsPassing};
+ghost use Rattle.jp_lines.specs.Private.Passing.{kept_of};
 ghost use Rattle.jp_lines.specs.Views.{task_of};
 
 use crate::answer::{Asked, Memory};
@@ -24,7 +25,7 @@ pub(crate) struct Progress {
     pub(crate) number: u64,
     /// What has come of it, but at most one byte more than a document may have.
     pub(crate) line: Vec<u8>,
-    /// What is said of the lines before it.
+    /// What the lines before it count.
     pub(crate) tally: Tally,
     pub(crate) memory: Memory,
 }
@@ -34,8 +35,7 @@ impl Progress {
     pub(crate) fn new(alloc: Global) -> Progress
         ensures number { result.number ≡ 1 }
         ensures line { result.line.items ≡ [] }
-        ensures refused { result.tally.refused ≡ false }
-        ensures selected { result.tally.selected ≡ false }
+        ensures tally { result.tally ≡ tally_of [] }
     {
         Progress {
             number: 1,
@@ -57,14 +57,14 @@ pub(crate) fn pass<W: Output, E: Writer>(
 ) -> Result<(), Stop>
     requires named { HasNamedLocation asked.task }
     ensures passes { OnOk result ((line : List ℕ) → Keeps progress.old line
-        → PassesOn asked.entry.options W.contents W.has_failed E.contents E.has_failed
-        (task_of asked.entry.task) bytes.now progress.old progress.new line
+        → PassesOn asked.entry.options asked.entry.lead.now W.contents W.has_failed
+        E.contents E.has_failed (task_of asked.entry.task) bytes.now progress.old progress.new line
         output.old output.new faults.old faults.new) }
     ensures few { OnOk result (asked.entry.options.keep_going ≡ false
         → length progress.new.line.items ≤ document_limit) }
     ensures stopped { IfErr result (λ stop. (line : List ℕ) → Keeps progress.old line
-        → StopsPassing asked.entry.options W.contents W.has_failed E.contents E.has_failed
-        (task_of asked.entry.task) bytes.now progress.old line
+        → StopsPassing asked.entry.options asked.entry.lead.now W.contents W.has_failed
+        E.contents E.has_failed (task_of asked.entry.task) bytes.now progress.old progress.new line
         output.old output.new faults.old faults.new stop) }
 {
     let mut rest = bytes;
@@ -102,23 +102,24 @@ pub(crate) fn end_line<W: Output, E: Writer>(
 ) -> Result<(), Stop>
     requires named { HasNamedLocation asked.task }
     ensures ended { OnOk result ((line : List ℕ) → Keeps progress.old line
-        → EndsLine asked.entry.options W.contents W.has_failed E.contents E.has_failed
-        (task_of asked.entry.task) progress.old progress.new line
+        → EndsLine asked.entry.options asked.entry.lead.now W.contents W.has_failed
+        E.contents E.has_failed (task_of asked.entry.task) progress.old progress.new line
         output.old output.new faults.old faults.new) }
     ensures stopped { IfErr result (λ stop. (line : List ℕ) → Keeps progress.old line
-        → StopsEnding asked.entry.options W.contents W.has_failed E.contents E.has_failed
-        (task_of asked.entry.task) progress.old.number line
+        → StopsEnding asked.entry.options asked.entry.lead.now W.contents W.has_failed
+        E.contents E.has_failed (task_of asked.entry.task) progress.old.number line
+        progress.old.tally progress.new.tally
         output.old output.new faults.old faults.new stop) }
 {
-    let tally = treat(
+    progress.tally = treat(
         asked,
         progress.number,
+        progress.tally,
         progress.line.as_slice(),
         &mut progress.memory,
         output,
         faults,
     )?;
-    progress.tally = progress.tally.with(tally);
     progress.line.clear();
     progress.number = number_after(progress.number)?;
     Ok(())

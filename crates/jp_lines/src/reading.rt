@@ -1,33 +1,52 @@
-//! Reading the queries of a run, before its input.
+//! Reading what is asked of documents, before the inputs.
 
 ghost use Rattle.std.specs.Prelude.{◌≡◌, IfErr, IfOk, map};
-ghost use Rattle.jp_tree.specs.Views.{query_of};
-ghost use Rattle.jp_command.specs.declared.fault.Fault.TheVariants.{NoMemory};
-ghost use Rattle.jp_lines.specs.Private.Halting.{StopsReading};
+ghost use Rattle.jp_command.specs.Run.{IsAsked};
+ghost use Rattle.jp_tree.specs.Views.{expr_of, query_of};
+ghost use Rattle.jp_lines.specs.Expression.{IsFilterAsked};
+ghost use Rattle.jp_lines.specs.Private.Halting.{StopsAtExpression, StopsAtQuery, StopsReading};
 ghost use Rattle.jp_lines.specs.Request.{AreAsked};
-ghost use Rattle.jp_lines.specs.declared.stop.Stop.TheVariants.{Run};
 
-use crate::stop::Stop;
-use jp_check::{Checked, Profile};
+use crate::expression::read_expression;
+use crate::halt::Unbegun;
+use jp_check::{Checked, CheckedFilter, Profile};
 use jp_command::{Fault, read_within_limit};
+use jp_query::RefusalKind;
 use std::alloc::{AllocError, Global};
 
-/// Why a run stopped, and the query that is told of where one is refused.
-#[derive(Drop)]
-pub(crate) struct Halt<'w> {
-    pub(crate) stop: Stop,
-    pub(crate) query: &'w str,
+/// The query of this text.
+pub(crate) fn read_query<'w>(
+    alloc: Global,
+    text: &'w str,
+    profile: Profile,
+) -> Result<Checked, Unbegun<'w>>
+    ensures read { IfOk result (λ query. IsAsked profile text.now (query_of query.query)) }
+    ensures stopped { IfErr result (StopsAtQuery profile text.now) }
+{
+    match read_within_limit(alloc, text, profile) {
+        Ok(query) => Ok(query),
+        Err(refusal) => Err(match refusal.kind {
+            RefusalKind::NoMemory => Unbegun::Fault(Fault::NoMemory),
+            _ => Unbegun::Query(text, refusal),
+        }),
+    }
 }
 
-/// Of none of its queries: memory ran out.
-impl<'w> From<AllocError> for Halt<'w> {
-    ghost from_gives = { λ _ halt. halt.stop ≡ Run NoMemory };
-
-    fn from(_error: AllocError) -> Halt<'w> {
-        Halt {
-            stop: Stop::Run(Fault::NoMemory),
-            query: "",
-        }
+/// The expression of this text.
+pub(crate) fn read_keeping<'w>(
+    alloc: Global,
+    text: &str,
+    profile: Profile,
+) -> Result<CheckedFilter, Unbegun<'w>>
+    ensures read { IfOk result (λ filter. IsFilterAsked profile text.now (expr_of filter.expr)) }
+    ensures stopped { IfErr result (StopsAtExpression profile text.now) }
+{
+    match read_expression(alloc, text, profile) {
+        Ok(filter) => Ok(filter),
+        Err(refusal) => Err(match refusal.kind {
+            RefusalKind::NoMemory => Unbegun::Fault(Fault::NoMemory),
+            _ => Unbegun::Expression(refusal),
+        }),
     }
 }
 
@@ -36,23 +55,15 @@ pub(crate) fn read_all<'w>(
     alloc: Global,
     texts: &[&'w str],
     profile: Profile,
-) -> Result<Vec<Checked>, Halt<'w>>
+) -> Result<Vec<Checked>, Unbegun<'w>>
     ensures read { IfOk result (λ queries. AreAsked profile (map (λ t. t.now) texts.now)
         (map (λ c. query_of c.query) queries.items)) }
-    ensures stopped { IfErr result (λ halt. StopsReading profile (map (λ t. t.now) texts.now)
-        halt.stop halt.query.now) }
+    ensures stopped { IfErr result (StopsReading profile (map (λ t. t.now) texts.now)) }
 {
     let mut queries = Vec::new(alloc);
     for text in texts {
-        match read_within_limit(alloc, text, profile) {
-            Ok(query) => queries.push(query).map_err(AllocError::from)?,
-            Err(fault) => {
-                return Err(Halt {
-                    stop: Stop::Run(Fault::from(fault)),
-                    query: text,
-                });
-            }
-        }
+        let query = read_query(alloc, text, profile)?;
+        queries.push(query).map_err(AllocError::from)?;
     }
     Ok(queries)
 }

@@ -1,13 +1,14 @@
 //! A run over the lines of an input.
 
-ghost use Rattle.std.specs.Prelude.{map};
+ghost use Rattle.std.specs.Prelude.{◌≡◌, []};
 ghost use Rattle.jp_check.specs.declared.profile.Profile.{Profile};
-ghost use Rattle.jp_tree.specs.Views.{expr_of, query_of};
+ghost use Rattle.jp_tree.specs.Views.{query_of};
 ghost use Rattle.jp_lines.specs.Private.Answers.{HasNamedLocation};
 ghost use Rattle.jp_lines.specs.Private.Asking.{RunsAsked};
+ghost use Rattle.jp_lines.specs.Private.Passing.{BeginsAtStart};
 ghost use Rattle.jp_lines.specs.Request.{IsTaskOf, Request, SelectBy};
-ghost use Rattle.jp_lines.specs.Run.{RunsLines};
-ghost use Rattle.jp_lines.specs.Task.{Keep, Select, Tabulate};
+ghost use Rattle.jp_lines.specs.Run.{GoesOver, RunsLines};
+ghost use Rattle.jp_lines.specs.Task.{Select};
 ghost use Rattle.jp_lines.specs.Views.{task_of};
 ghost use Rattle.jp_lines.specs.declared.options.Extent.TheVariants as Extent;
 
@@ -16,9 +17,8 @@ use crate::options::{Extent, Options, Wanted};
 use crate::passing::{Progress, end_line, pass};
 use crate::stop::Stop;
 use crate::tally::Tally;
-use crate::task::{Columns, Selection, Task};
-use jp_cells::Style;
-use jp_check::{Checked, CheckedFilter, Profile};
+use crate::task::{Selection, Task};
+use jp_check::{Checked, Profile};
 use jp_command::{Fault, Output, Source, Writer, chunk_buffer, read_within_limit};
 use jp_evaluate::named_location;
 use std::alloc::Global;
@@ -32,8 +32,9 @@ const READS: u64 = u64::MAX;
 /// came; one document is in memory at a time. Where the query names a location below the root, the
 /// value there is found while a line is read, without the rest of the document.
 ///
-/// Answers whether something was selected, and whether some line was refused: one that is no document, or whose document needs more
-/// steps than `limit` says, is told to `faults`, where `keep_going` asks the run to go on, and is else
+/// Answers how many documents there are, how many nodes are selected in them, and how many lines are
+/// refused: one that is no document, or whose document needs more steps than `limit` says, is told to
+/// `faults`, where `keep_going` asks the run to go on and no more than `reports` says are told, and is else
 /// the `Line` that the run stops with. Of a line that is refused nothing is written: where there is a
 /// limit, what is written of a document is made in memory first. What can't be
 /// written to `faults` is left out, and no further write to it is tried. The other errors are those
@@ -69,8 +70,8 @@ pub fn run_lines<R: Source, W: Output, E: Writer>(
     )
 }
 
-/// The same of a query that was read, for all its nodes or the first alone.
-pub(crate) fn run_selected<R: Source, W: Output, E: Writer>(
+/// Runs a query that was read.
+fn run_selected<R: Source, W: Output, E: Writer>(
     alloc: Global,
     wanted: Wanted,
     extent: Extent,
@@ -97,82 +98,75 @@ pub(crate) fn run_selected<R: Source, W: Output, E: Writer>(
         alloc,
         task: Task::Select(selection),
         options,
+        lead: "",
     };
-    pass_all(asked, input, output, faults)
+    pass_alone(asked, input, output, faults)
 }
 
-/// The same of an expression that was read, whose lines are kept.
-pub(crate) fn run_kept<R: Source, W: Output, E: Writer>(
-    alloc: Global,
-    filter: &CheckedFilter,
-    options: Options,
-    input: &mut R,
-    output: &mut W,
-    faults: &mut E,
-) -> Result<Tally, Stop>
-    ensures { (profile : Profile) (request : Request)
-        → IsTaskOf profile request (Keep (expr_of filter.now.expr))
-        → RunsAsked profile options R.remaining R.has_failed R.read_gives
-        W.contents W.has_failed E.contents E.has_failed request
-        input.old input.new output.old output.new faults.old faults.new result }
-{
-    let asked = Asked {
-        alloc,
-        task: Task::Keep(filter),
-        options,
-    };
-    pass_all(asked, input, output, faults)
-}
-
-/// Writes a row in this style for each document, with a cell for each query.
-pub(crate) fn run_columns<R: Source, W: Output, E: Writer>(
-    alloc: Global,
-    style: Style,
-    queries: &[Checked],
-    options: Options,
-    input: &mut R,
-    output: &mut W,
-    faults: &mut E,
-) -> Result<Tally, Stop>
-    ensures { (profile : Profile) (request : Request)
-        → IsTaskOf profile request (Tabulate style (map (λ c. query_of c.query) queries.now))
-        → RunsAsked profile options R.remaining R.has_failed R.read_gives
-        W.contents W.has_failed E.contents E.has_failed request
-        input.old input.new output.old output.new faults.old faults.new result }
-{
-    let asked = Asked {
-        alloc,
-        task: Task::Tabulate(Columns { style, queries }),
-        options,
-    };
-    pass_all(asked, input, output, faults)
-}
-
-/// The same of any task.
-fn pass_all<R: Source, W: Output, E: Writer>(
+/// Runs a task over an input that has no name.
+fn pass_alone<R: Source, W: Output, E: Writer>(
     asked: Asked<'_>,
     input: &mut R,
     output: &mut W,
     faults: &mut E,
 ) -> Result<Tally, Stop>
     requires named { HasNamedLocation asked.task }
+    requires alone { asked.lead.now ≡ [] }
     ensures { (profile : Profile) (request : Request)
         → IsTaskOf profile request (task_of asked.entry.task)
         → RunsAsked profile asked.entry.options R.remaining R.has_failed R.read_gives
         W.contents W.has_failed E.contents E.has_failed request
         input.old input.new output.old output.new faults.old faults.new result }
 {
-    let mut chunk = chunk_buffer(asked.alloc)?;
+    let (tally, ended) = pass_all(asked, input, output, faults);
+    match ended {
+        Ok(()) => Ok(tally),
+        Err(stop) => Err(stop),
+    }
+}
+
+/// Goes over the lines of an input with a task. Answers what they count, or those before a stop, and how
+/// it ended.
+pub(crate) fn pass_all<R: Source, W: Output, E: Writer>(
+    asked: Asked<'_>,
+    input: &mut R,
+    output: &mut W,
+    faults: &mut E,
+) -> (Tally, Result<(), Stop>)
+    requires named { HasNamedLocation asked.task }
+    ensures { GoesOver asked.entry.options asked.entry.lead.now R.remaining R.has_failed R.read_gives
+        W.contents W.has_failed E.contents E.has_failed (task_of asked.entry.task)
+        input.old input.new output.old output.new faults.old faults.new result.0 result.1 }
+{
     let mut progress = Progress::new(asked.alloc);
+    let ended = pass_reads(asked, &mut progress, input, output, faults);
+    (progress.tally, ended)
+}
+
+/// Goes over an input from the start of the first line on; what is counted stands in `progress`.
+fn pass_reads<R: Source, W: Output, E: Writer>(
+    asked: Asked<'_>,
+    progress: &mut Progress,
+    input: &mut R,
+    output: &mut W,
+    faults: &mut E,
+) -> Result<(), Stop>
+    requires named { HasNamedLocation asked.task }
+    requires start { BeginsAtStart progress.now }
+    ensures { GoesOver asked.entry.options asked.entry.lead.now R.remaining R.has_failed R.read_gives
+        W.contents W.has_failed E.contents E.has_failed (task_of asked.entry.task)
+        input.old input.new output.old output.new faults.old faults.new progress.new.tally result }
+{
+    let mut chunk = chunk_buffer(asked.alloc)?;
     for _ in 0..READS {
         let Ok(count) = input.read(chunk.as_mut_slice()) else {
             return Err(Stop::Run(Fault::Read));
         };
         if count == 0 {
-            end_line(asked, &mut progress, output, faults)?;
-            return Ok(progress.tally);
+            end_line(asked, progress, output, faults)?;
+            return Ok(());
         }
-        pass(asked, &mut progress, &chunk[..count], output, faults)?;
+        pass(asked, progress, &chunk[..count], output, faults)?;
     }
     Err(Stop::Run(Fault::NoMemory))
 }

@@ -1,8 +1,8 @@
 //! What a run does with each document.
 
-use crate::options::{Extent, Wanted};
+use crate::options::{Extent, Options, Wanted};
 use jp_cells::Style;
-use jp_check::{Checked, CheckedFilter};
+use jp_check::{Checked, CheckedFilter, Profile};
 use jp_document::Step;
 
 /// What is asked of each document, in the texts of the words.
@@ -15,6 +15,17 @@ pub(crate) enum Request<'w> {
     /// To write a row in this style, with a cell for each of the queries of these texts, and before
     /// all rows, if it is to be, one of these texts.
     ColumnsBy(Style, bool, Vec<&'w str>),
+}
+
+/// What the words of a command line ask for.
+#[derive(Drop)]
+pub(crate) struct Job<'w> {
+    pub(crate) options: Options,
+    pub(crate) request: Request<'w>,
+    /// The names of the inputs, in order, `-` for the standard input; none where none is named, which
+    /// means the standard input alone.
+    pub(crate) inputs: Vec<&'w str>,
+    pub(crate) profile: Profile,
 }
 
 /// What a run does with each document.

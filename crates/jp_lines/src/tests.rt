@@ -3,7 +3,11 @@
 mod columns;
 mod devices;
 mod explained;
+mod files;
+mod inputs;
 mod keep;
 mod limits;
 mod programs;
 mod runs;
+mod tallies;
+mod words;

@@ -1,14 +1,14 @@
 //! What is done with one line.
 
-ghost use Rattle.std.specs.Prelude.{◌≡◌, ◌⊎◌, List, ℕ, IfErr, IfOk, OnErr, OnOk, true, false};
+ghost use Rattle.std.specs.Prelude.{◌≡◌, ◌⊎◌, ◌∷◌, [], List, ℕ, IfErr, IfOk, OnErr, OnOk, true, false};
 ghost use Rattle.std.specs.Io.KnownBytes.{Keeps};
 ghost use Rattle.jp_command.specs.declared.fault.Fault.TheVariants as fault;
-ghost use Rattle.jp_lines.specs.Outcome.{IsRefusal, Refused, told_of};
+ghost use Rattle.jp_lines.specs.Outcome.{IsRefusal, Refused, left_after, told_of_all};
 ghost use Rattle.jp_lines.specs.Told.{Tells};
 ghost use Rattle.jp_lines.specs.declared.stop.Stop.TheVariants as stop;
 ghost use Rattle.jp_lines.specs.Private.Answers.{HasNamedLocation};
-ghost use Rattle.jp_lines.specs.Private.Passing.{kept_of};
-ghost use Rattle.jp_lines.specs.Private.Treating.{StopsEnding, Treats};
+ghost use Rattle.jp_lines.specs.Private.Passing.{StopsEnding, kept_of};
+ghost use Rattle.jp_lines.specs.Private.Treating.{Treats};
 ghost use Rattle.jp_lines.specs.Views.{task_of};
 
 use crate::answer::{Asked, Memory, Reply, answer};
@@ -18,41 +18,43 @@ use crate::stop::Stop;
 use crate::tally::Tally;
 use crate::telling::tell;
 use jp_command::{Fault, Output, Writer};
+use std::alloc::{AllocError, Global};
 
-/// Writes what is asked of a line's document, or tells that the line is refused; answers what is to be
-/// said of it. Of the line it takes what is kept of it.
+/// Writes what is asked of a line's document, or tells that the line is refused; answers what it and the
+/// lines before it count. Of the line it takes what is kept of it.
 pub(crate) fn treat<W: Output, E: Writer>(
     asked: Asked<'_>,
     number: u64,
+    before: Tally,
     kept: &[u8],
     memory: &mut Memory,
     output: &mut W,
     faults: &mut E,
 ) -> Result<Tally, Stop>
     requires named { HasNamedLocation asked.task }
-    ensures treated { IfOk result (λ tally. (line : List ℕ) → kept.now ≡ kept_of line
-        → Treats asked.entry.options W.contents W.has_failed E.contents E.has_failed
-        (task_of asked.entry.task) number line tally
+    ensures treated { IfOk result (λ after. (line : List ℕ) → kept.now ≡ kept_of line
+        → Treats asked.entry.options asked.entry.lead.now W.contents W.has_failed
+        E.contents E.has_failed (task_of asked.entry.task) number line before after
         output.old output.new faults.old faults.new) }
     ensures stopped { IfErr result (λ why. (line : List ℕ) → kept.now ≡ kept_of line
-        → StopsEnding asked.entry.options W.contents W.has_failed E.contents E.has_failed
-        (task_of asked.entry.task) number line
+        → StopsEnding asked.entry.options asked.entry.lead.now W.contents W.has_failed
+        E.contents E.has_failed (task_of asked.entry.task) number line before before
         output.old output.new faults.old faults.new why) }
 {
     match answer(asked, number, kept, memory, output)? {
+        Reply::Blank => {
+            flush(asked.options.line_buffered, output)?;
+            Ok(before)
+        }
         Reply::Written(selected) => {
             flush(asked.options.line_buffered, output)?;
-            Ok(Tally {
-                refused: false,
-                selected,
-            })
+            let after = before.with(Tally::of_document(selected))?;
+            Ok(after)
         }
         Reply::Refused(defect) => {
-            refuse(asked, number, kept, defect, faults)?;
-            Ok(Tally {
-                refused: true,
-                selected: false,
-            })
+            let after = before.with(Tally::of_refusal())?;
+            refuse(asked, number, before.refused, kept, defect, faults)?;
+            Ok(after)
         }
     }
 }
@@ -70,24 +72,29 @@ pub(crate) fn flush<W: Output>(is_asked_for: bool, output: &mut W) -> Result<(),
     Ok(())
 }
 
-/// Tells that a line, of which this is kept, is refused, where the run goes on after it.
+/// Tells that a line, of which this is kept, is refused, where the run goes on after it and fewer than are
+/// to be told are refused before it.
 fn refuse<E: Writer>(
     asked: Asked<'_>,
     number: u64,
+    before: u64,
     kept: &[u8],
     defect: Defect,
     faults: &mut E,
 ) -> Result<(), Stop>
     ensures told { OnOk result ((line : RefusedLine)
         × IsRefusal asked.entry.options number kept.now defect line
-        × Tells E.contents E.has_failed faults.old faults.new (told_of (Refused line))) }
+        × Tells E.contents E.has_failed faults.old faults.new (told_of_all asked.entry.lead.now
+        (left_after before asked.entry.options.reports) (Refused line ∷ []))) }
     ensures going { OnOk result (asked.entry.options.keep_going ≡ true) }
     ensures stopped { IfErr result (λ why. (why ≡ stop.Run fault.NoMemory)
         ⊎ (((line : RefusedLine) × IsRefusal asked.entry.options number kept.now defect line
         × (why ≡ stop.Line line)) × (asked.entry.options.keep_going ≡ false))) }
     ensures silent { OnErr result (faults.new ≡ faults.old) }
 {
-    let explanation = explanation(asked, number, kept, &defect);
+    let left = asked.options.reports_left(before);
+    let is_told = !asked.options.keep_going || left != Some(0);
+    let explanation = explanation(asked, is_told, number, kept, &defect);
     let refused = RefusedLine {
         number,
         defect,
@@ -96,6 +103,24 @@ fn refuse<E: Writer>(
     if !asked.options.keep_going {
         return Err(Stop::Line(refused));
     }
-    tell(asked.alloc, &refused, faults)?;
+    tell_within(asked.alloc, left, asked.lead, &refused, faults)?;
     Ok(())
+}
+
+/// Tells that a line is refused, unless none may be told any more.
+fn tell_within<E: Writer>(
+    alloc: Global,
+    left: Option<u64>,
+    lead: &str,
+    refused: &RefusedLine,
+    faults: &mut E,
+) -> Result<(), AllocError>
+    ensures told { OnOk result (Tells E.contents E.has_failed faults.old faults.new
+        (told_of_all lead.now left (Refused refused.now ∷ []))) }
+    ensures silent { OnErr result (faults.new ≡ faults.old) }
+{
+    match left {
+        Some(0) => Ok(()),
+        _ => tell(alloc, lead, refused, faults),
+    }
 }

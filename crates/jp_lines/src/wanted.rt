@@ -1,11 +1,11 @@
 //! What is written of a document.
 
 ghost use Rattle.std.specs.Prelude.{◌≡◌, ◌++◌, ◌<◌, IfErr, IfOk, OnOk, codes, map};
-ghost use Rattle.std.specs.Prelude.{string_bytes};
+ghost use Rattle.std.specs.Prelude.{length, string_bytes};
 ghost use Rattle.std.specs.Fmt.{decimal};
 ghost use Rattle.jp_tree.specs.Views.{query_of};
 ghost use Rattle.jp_select.specs.Steps.{Takes};
-ghost use Rattle.jp_evaluate.specs.Nodelist.{has_node, nodelist};
+ghost use Rattle.jp_evaluate.specs.Nodelist.{nodelist};
 ghost use Rattle.jp_evaluate.specs.Stopping.{StopsSpent};
 ghost use Rattle.jp_command.specs.Found.{found_nodes};
 ghost use Rattle.jp_command.specs.Output.{StopsWriting, WritesAll};
@@ -15,7 +15,7 @@ ghost use Rattle.jp_reading.specs.Characters.{tab};
 ghost use Rattle.jp_lines.specs.Names.{names_before, names_text};
 ghost use Rattle.jp_lines.specs.Outcome.{lead_of};
 ghost use Rattle.jp_lines.specs.Private.Limits.{IsAllowed, WritesOrGivesUp, most_within, stop_of};
-ghost use Rattle.jp_lines.specs.Task.{mark_behind_number, nodes_output, nodes_within, selects};
+ghost use Rattle.jp_lines.specs.Task.{mark_behind_number, nodes_output, nodes_within, selected_in};
 ghost use Rattle.jp_lines.specs.Task.{written_for};
 ghost use Rattle.jp_lines.specs.Views.{columns_task, task_of};
 
@@ -45,7 +45,7 @@ pub(crate) fn write_for<'d: 'q, 'q, V: Selectable + 'd, W: Writer>(
     output: &mut W,
 ) -> Result<Reply, Fault>
     ensures ok { IfOk result (WritesOrGivesUp W.contents W.has_failed asked.entry.options.limit
-        (selects (task_of asked.entry.task) (V.meaning root))
+        (selected_in (task_of asked.entry.task) (V.meaning root))
         (written_for (task_of asked.entry.task)
         (lead_of (mark_behind_number (task_of asked.entry.task)) asked.entry.options.numbered number)
         line.now (V.meaning root)) output.old output.new) }
@@ -70,7 +70,7 @@ pub(crate) fn write_for<'d: 'q, 'q, V: Selectable + 'd, W: Writer>(
     }
 }
 
-/// The same of columns. Nothing is written before all of the row is made.
+/// Writes the row of a document. Nothing is written before all of the row is made.
 fn write_columns<'d: 'q, 'q, V: Selectable + 'd, W: Writer>(
     asked: Asked<'q>,
     columns: Columns<'q>,
@@ -80,7 +80,7 @@ fn write_columns<'d: 'q, 'q, V: Selectable + 'd, W: Writer>(
     output: &mut W,
 ) -> Result<Reply, Fault>
     ensures ok { IfOk result (WritesOrGivesUp W.contents W.has_failed asked.entry.options.limit
-        (selects (columns_task columns.entry) (V.meaning root))
+        (selected_in (columns_task columns.entry) (V.meaning root))
         (lead_of (separator columns.entry.style.format) asked.entry.options.numbered number
         ++ columns_text columns.entry.style (map (λ c. query_of c.query) columns.entry.queries.now)
         (V.meaning root)) output.old output.new) }
@@ -159,7 +159,7 @@ fn mark_between(format: Format) -> char
     }
 }
 
-/// The same of a selection, behind the text `lead`.
+/// Writes what is asked of the nodes that a selection has in a document, behind the text `lead`.
 fn write_wanted<'d: 'q, 'q, V: Selectable + 'd, W: Writer>(
     asked: Asked<'q>,
     selection: Selection<'q>,
@@ -169,7 +169,8 @@ fn write_wanted<'d: 'q, 'q, V: Selectable + 'd, W: Writer>(
     output: &mut W,
 ) -> Result<Reply, Fault>
     ensures ok { IfOk result (WritesOrGivesUp W.contents W.has_failed asked.entry.options.limit
-        (has_node (nodelist (query_of selection.entry.query.now.query) (V.meaning root)))
+        (length (nodes_within selection.entry.extent
+        (nodelist (query_of selection.entry.query.now.query) (V.meaning root))))
         (nodes_output selection.entry.wanted lead.now
         (nodes_within selection.entry.extent
         (nodelist (query_of selection.entry.query.now.query) (V.meaning root)))) output.old output.new) }
@@ -203,7 +204,7 @@ fn write_wanted<'d: 'q, 'q, V: Selectable + 'd, W: Writer>(
     }
 }
 
-/// The same with the steps that are allowed, by way of memory: nothing is written before all of it is
+/// Writes that with the steps that are allowed, by way of memory: nothing is written before all of it is
 /// made.
 fn write_whole<'d: 'q, 'q, V: Selectable + 'd, W: Writer>(
     asked: Asked<'q>,
@@ -216,7 +217,8 @@ fn write_whole<'d: 'q, 'q, V: Selectable + 'd, W: Writer>(
 ) -> Result<Reply, Fault>
     requires { IsAllowed asked.options.limit allowed }
     ensures ok { IfOk result (WritesOrGivesUp W.contents W.has_failed asked.entry.options.limit
-        (has_node (nodelist (query_of selection.entry.query.now.query) (V.meaning root)))
+        (length (nodes_within selection.entry.extent
+        (nodelist (query_of selection.entry.query.now.query) (V.meaning root))))
         (nodes_output selection.entry.wanted lead.now
         (nodes_within selection.entry.extent
         (nodelist (query_of selection.entry.query.now.query) (V.meaning root)))) output.old output.new) }
@@ -266,8 +268,8 @@ pub(crate) fn stop_of(fault: EvaluationFault, made: u64) -> Result<Reply, Fault>
     }
 }
 
-/// Makes `spare.line` what is asked of the document whose value is the root, and answers whether
-/// something in it is selected.
+/// Makes `spare.line` what is asked of the document whose value is the root, and answers how many nodes
+/// it is of.
 fn make_wanted<'d: 'q, 'q, V: Selectable + 'd>(
     alloc: Global,
     selection: Selection<'q>,
@@ -275,19 +277,19 @@ fn make_wanted<'d: 'q, 'q, V: Selectable + 'd>(
     root: V,
     spare: &mut Spare,
     steps: &mut Steps,
-) -> Result<bool, EvaluationFault>
+) -> Result<u64, EvaluationFault>
     ensures made { OnOk result (string_bytes spare.new.line ≡ nodes_output selection.entry.wanted
         lead.now (nodes_within selection.entry.extent
         (nodelist (query_of selection.entry.query.now.query) (V.meaning root)))) }
-    ensures some { IfOk result (λ some. some
-        ≡ has_node (nodelist (query_of selection.entry.query.now.query) (V.meaning root))) }
+    ensures count { IfOk result (λ count. count ≡ length (nodes_within selection.entry.extent
+        (nodelist (query_of selection.entry.query.now.query) (V.meaning root)))) }
     ensures takes { Takes steps.old steps.new }
     ensures stopped { StopsSpent result steps.new }
 {
     let patterns = &mut spare.patterns;
     match selection.wanted {
         Wanted::Nodes(form) => {
-            spare.line = selected_lines(
+            let lines = selected_lines(
                 alloc,
                 form,
                 lead,
@@ -297,7 +299,8 @@ fn make_wanted<'d: 'q, 'q, V: Selectable + 'd>(
                 patterns,
                 steps,
             )?;
-            Ok(!spare.line.is_empty())
+            spare.line = lines.text;
+            Ok(lines.count)
         }
         Wanted::Count => {
             let count = count_selected(
@@ -309,13 +312,13 @@ fn make_wanted<'d: 'q, 'q, V: Selectable + 'd>(
                 steps,
             )?;
             push_count(lead, count, &mut spare.line)?;
-            Ok(count != 0)
+            Ok(count)
         }
     }
 }
 
 /// Writes what is asked of a document in which the query selects the value at the location alone, or
-/// nothing where there is none, and answers whether there is one.
+/// nothing where there is none, and answers how many there are.
 pub(crate) fn write_wanted_at<V: Selectable, W: Writer>(
     asked: Asked<'_>,
     wanted: Wanted,
@@ -324,8 +327,8 @@ pub(crate) fn write_wanted_at<V: Selectable, W: Writer>(
     value: Option<V>,
     memory: &mut Memory,
     output: &mut W,
-) -> Result<bool, Fault>
-    ensures some { IfOk result (λ some. some ≡ has_node (found_nodes V.meaning location.now value)) }
+) -> Result<u64, Fault>
+    ensures count { IfOk result (λ count. count ≡ length (found_nodes V.meaning location.now value)) }
     ensures ok { OnOk result (WritesAll W.contents W.has_failed output.old output.new
         (nodes_output wanted (lead_of tab asked.entry.options.numbered number)
         (found_nodes V.meaning location.now value))) }
@@ -337,12 +340,12 @@ pub(crate) fn write_wanted_at<V: Selectable, W: Writer>(
     let line = &mut memory.spare.line;
     set_lead(asked.options.numbered, number, '\t', lead)?;
     let lead = lead.as_str();
-    let selected = value.is_some();
+    let selected = u64::from(value.is_some());
     match wanted {
         Wanted::Nodes(form) => {
             write_found(asked.alloc, form, lead, location, value, line, output)?;
         }
-        Wanted::Count => write_count(lead, u64::from(selected), line, output)?,
+        Wanted::Count => write_count(lead, selected, line, output)?,
     }
     Ok(selected)
 }

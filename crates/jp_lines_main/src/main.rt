@@ -1,11 +1,11 @@
-//! `jp-lines`: a JSONPath query (RFC 9535) over the documents on the standard input, one a line.
+//! `jp-lines`: a JSONPath query (RFC 9535) over documents, one a line, of files or of the standard input.
 //!
-//! It hands its words and streams over to `run_program` of `jp_lines` and ends with the status that
-//! `run_program` answers.
+//! It hands its words, its files and its streams over to `run_program` of `jp_lines` and ends with the
+//! status that `run_program` answers.
 #![tactic(auto)]
 
 use jp_command::{Device, buffered, exit_status, unbuffered};
-use jp_lines::run_program;
+use jp_lines::{Opener, run_program};
 use std::process::ExitCode;
 use std::{env, io};
 
@@ -18,10 +18,10 @@ fn main(rt: HostRuntime) -> ExitCode {
 fn run(rt: &HostRuntime) -> io::Result<u8> {
     let alloc = rt.alloc();
     let words = env::args(rt)?.collect(alloc)?;
-    let mut input = Device::new(rt.stdin());
+    let mut inputs = Opener::new(rt, rt.stdin());
     let mut output = buffered(alloc, rt.stdout())?;
     let mut faults = Device::new(rt.stderr());
-    let status = run_program(alloc, words, &mut input, &mut output, &mut faults);
+    let status = run_program(alloc, words, &mut inputs, &mut output, &mut faults);
     // A buffer that is dropped writes what a failed write has left in it.
     let _ = unbuffered(output);
     Ok(status)

@@ -9,7 +9,7 @@ use Rattle.jp_evaluate.specs.Named.{NamesLocation}
 use Rattle.jp_command.specs.Output.{AppendsPrefix, WritesAll}
 use Rattle.jp_command.specs.declared.fault.Fault.{Fault}
 use Rattle.jp_command.specs.declared.fault.Fault.TheVariants.{NoMemory, Write}
-use Rattle.jp_lines.specs.Outcome.{Answered, ComesTo, IsDefective}
+use Rattle.jp_lines.specs.Outcome.{Answered, Blank, ComesTo, IsDefective}
 use Rattle.jp_lines.specs.Task.{Task}
 use Rattle.jp_lines.specs.declared.answer.Reply.{Reply}
 use Rattle.jp_lines.specs.declared.answer.Reply.TheVariants as reply
@@ -34,20 +34,21 @@ HasNamedLocation (tasks.Tabulate columns) = ⊤
 -- o and p are the output before and after
 module _ {W : Type 0} (contents : W → Option (List ℕ)) (has_failed : W → Bool) (options : Options)
     (task : Task) (number : ℕ) (line : List ℕ) (o p : W) where
-  -- all that is to be written of the line is written, in which something is selected or not
-  pub record AnswersLine (selected : Bool) : Type 0 where
+  -- all that is to be written of the line is written, in whose document so many nodes are selected
+  pub record AnswersLine (selected : ℕ) : Type 0 where
     pub output : List ℕ
     pub comes : ComesTo options task number line (Answered selected output)
     pub writes : WritesAll contents has_failed o p output
 
   -- a prefix of it is
   pub record AnswersInPart : Type 0 where
-    pub selected : Bool
+    pub selected : ℕ
     pub output : List ℕ
     pub comes : ComesTo options task number line (Answered selected output)
     pub writes : AppendsPrefix (contents o) (contents p) output
 
   abbrev pub AnswersOrRefuses : Reply → Type 0
+  AnswersOrRefuses reply.Blank = ComesTo options task number line Blank × (p ≡ o)
   AnswersOrRefuses (Written selected) = AnswersLine selected
   AnswersOrRefuses (reply.Refused defect) =
       IsDefective options line defect × (p ≡ o)

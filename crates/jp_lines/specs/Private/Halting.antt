@@ -1,31 +1,27 @@
--- Why a run stopped, with the query that is told of. The clauses of `run_and_flush` and `read_all` cite
--- it.
-use Rattle.std.specs.Prelude.{⊤, ℕ, List, Result, Ok, Err}
+-- Why what is asked of documents was not read. The clauses of `read_query` and of those beside it cite it.
+use Rattle.std.specs.Prelude.{◌≡◌, ⊤, ℕ, List}
 use Rattle.jp_check.specs.declared.profile.Profile.{Profile}
-use Rattle.jp_command.specs.declared.fault.Fault.TheVariants.{NoMemory, Query}
-use Rattle.jp_lines.specs.Request.{IsRefusedText, RefusesFirst, Request}
-use Rattle.jp_lines.specs.declared.reading.Halt.{Halt}
-use Rattle.jp_lines.specs.declared.stop.Stop.{Stop}
-use Rattle.jp_lines.specs.declared.stop.Stop.TheVariants.{Run}
-use Rattle.jp_lines.specs.declared.tally.Tally.{Tally}
+use Rattle.jp_command.specs.Run.{RefusesQuery}
+use Rattle.jp_command.specs.declared.fault.Fault.TheVariants.{NoMemory}
+use Rattle.jp_lines.specs.Expression.{RefusesFilter}
+use Rattle.jp_lines.specs.Request.{RefusesFirst}
+use Rattle.jp_lines.specs.declared.halt.Unbegun.{Unbegun}
+use Rattle.jp_lines.specs.declared.halt.Unbegun.TheVariants.{Expression, Fault, Query}
 
--- the answer without the query that is told of
-abbrev pub without_query : Result Tally Halt → Result Tally Stop
-without_query (Ok tally) = Ok tally
-without_query (Err halt) = Err halt.stop
+-- the query is refused, or memory ran out
+abbrev pub StopsAtQuery : Profile → List ℕ → Unbegun → Type 0
+StopsAtQuery profile query (Query text r) = (text.now ≡ query) × RefusesQuery profile query r
+StopsAtQuery profile query (Fault NoMemory) = ⊤
+StopsAtQuery profile query _ = ⊥
 
--- where a query is refused it is the one that is told of
-abbrev pub IsQueryOf : Profile → Request → Stop → List ℕ → Type 0
-IsQueryOf profile request (Run (Query r)) text = IsRefusedText profile request r text
-IsQueryOf profile request _ text = ⊤
-
--- no query is refused
-abbrev pub IsUnrefused : Stop → Type 0
-IsUnrefused (Run (Query r)) = ⊥
-IsUnrefused _ = ⊤
+-- the same of an expression
+abbrev pub StopsAtExpression : Profile → List ℕ → Unbegun → Type 0
+StopsAtExpression profile text (Expression r) = RefusesFilter profile text r
+StopsAtExpression profile text (Fault NoMemory) = ⊤
+StopsAtExpression profile text _ = ⊥
 
 -- why not all of the queries were read: one is refused, or memory ran out
-abbrev pub StopsReading : Profile → List (List ℕ) → Stop → List ℕ → Type 0
-StopsReading profile texts (Run (Query r)) text = RefusesFirst profile texts r text
-StopsReading profile texts (Run NoMemory) text = ⊤
-StopsReading profile texts _ text = ⊥
+abbrev pub StopsReading : Profile → List (List ℕ) → Unbegun → Type 0
+StopsReading profile queries (Query text r) = RefusesFirst profile queries r text.now
+StopsReading profile queries (Fault NoMemory) = ⊤
+StopsReading profile queries _ = ⊥

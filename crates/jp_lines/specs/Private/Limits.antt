@@ -8,7 +8,7 @@ use Rattle.jp_command.specs.Output.{WritesAll}
 use Rattle.jp_command.specs.declared.fault.Fault.{Fault}
 use Rattle.jp_command.specs.declared.fault.Fault.TheVariants.{NoMemory}
 use Rattle.jp_lines.specs.declared.answer.Reply.{Reply}
-use Rattle.jp_lines.specs.declared.answer.Reply.TheVariants.{Refused, Written}
+use Rattle.jp_lines.specs.declared.answer.Reply.TheVariants.{Blank, Refused, Written}
 use Rattle.jp_lines.specs.declared.defect.Defect.TheVariants.{StepsUsedUp}
 use Rattle.jp_lines.specs.declared.options.Extent.{Extent}
 use Rattle.jp_lines.specs.declared.options.Extent.TheVariants.{All, First}
@@ -31,10 +31,11 @@ stop_of evaluation.StepsUsedUp made = Ok (Refused (StepsUsedUp made))
 
 -- o and p are the output before and after
 module _ {W : Type 0} (contents : W → Option (List ℕ)) (has_failed : W → Bool) (limit : Option ℕ)
-    (selects : Bool) (text : List ℕ) (o p : W) where
-  -- the text is written, of a document in which something is selected or not; or all steps that the
-  -- limit allows were made, and nothing is written
+    (count : ℕ) (text : List ℕ) (o p : W) where
+  -- the text is written, of a document in which so many nodes are selected; or all steps that the limit
+  -- allows were made, and nothing is written
   abbrev pub WritesOrGivesUp : Reply → Type 0
-  WritesOrGivesUp (Written selected) = (selected ≡ selects) × WritesAll contents has_failed o p text
+  WritesOrGivesUp Blank = ⊥
+  WritesOrGivesUp (Written selected) = (selected ≡ count) × WritesAll contents has_failed o p text
   WritesOrGivesUp (Refused (StepsUsedUp made)) = (limit ≡ Some made) × (p ≡ o)
   WritesOrGivesUp (Refused _) = ⊥

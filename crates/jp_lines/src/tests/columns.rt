@@ -1,6 +1,6 @@
 //! Rows of columns.
 
-use super::devices::{Narrow, Trickle};
+use super::devices::{Alone, Narrow, Trickle};
 use super::programs::{assert_ends, words};
 use crate::run_program;
 use jp_command::Device;
@@ -142,7 +142,7 @@ fn stops_where_a_write_fails(rt: HostRuntime) -> Result<(), Fail> {
         let ended = run_program(
             rt.alloc(),
             words(rt.alloc(), &line)?,
-            &mut Device::new(input),
+            &mut Alone::new(input),
             &mut Device::new(&mut output),
             &mut Device::new(&mut faults),
         );

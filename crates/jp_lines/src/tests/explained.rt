@@ -1,8 +1,9 @@
 //! What `--explain` adds to the report of a line that is refused.
 
-use super::devices::Narrow;
+use super::devices::{Alone, Narrow, Trickle};
 use super::programs::{assert_ends, words};
-use crate::run_program;
+use crate::{Options, Wanted, run_lines, run_program};
+use jp_check::Profile::Standard;
 use jp_command::Device;
 use std::alloc::{AllocError, Global};
 use std::process::Abort;
@@ -21,7 +22,8 @@ const ALL: &str = "line 3: document refused: NotJson\n\
     line 4: document refused: NotWhole at $[0]\n\
     line 4, column 2, at $[0]: A number with a fraction or an exponent is no whole number.\n\
     line 5: document refused: NotJson\n\
-    line 5, column 7: The text ends within an object: its closing brace is missing.\n";
+    line 5, column 7: The text ends within an object: its closing brace is missing. \
+    A document ends with its line: jq -c . writes each on one.\n";
 
 /// What is told of all without the flag.
 const PLAIN: &str = "line 3: document refused: NotJson\n\
@@ -79,6 +81,95 @@ fn explains_lines_where_that_is_asked_for(rt: HostRuntime) -> Result<(), AllocEr
     Ok(())
 }
 
+/// Lines that are no documents, and what is told of them.
+const OTHER_FORMS: [(&str, &str); 9] = [
+    (
+        "{\"a\":1} {\"a\":2}",
+        "column 9: Only blanks may come after the value. Each line holds one document.\n",
+    ),
+    (
+        "1,",
+        "column 2: Only blanks may come after the value. Each line holds one document.\n",
+    ),
+    (
+        "{",
+        "column 2: The text ends within an object: its closing brace is missing. \
+        A document ends with its line: jq -c . writes each on one.\n",
+    ),
+    (
+        "{\"a\":[1,",
+        "column 9: The text ends within an array: its closing bracket is missing. \
+        A document ends with its line: jq -c . writes each on one.\n",
+    ),
+    (
+        "\u{1e}{\"a\":1}",
+        "column 1: No value begins so. A record separator (RFC 7464) stands before the document: \
+        tr -d '\\036' takes it away.\n",
+    ),
+    (
+        "\u{1e}{\"a\":",
+        "column 1: No value begins so. A record separator (RFC 7464) stands before the document: \
+        tr -d '\\036' takes it away.\n",
+    ),
+    ("{\"a\":\u{1e}1}", "column 6: No value begins so.\n"),
+    ("@", "column 1: No value begins so.\n"),
+    (
+        "\u{feff}{}",
+        "column 1: A byte order mark stands before the value, and JSON has none.\n",
+    ),
+];
+
+#[test]
+fn tells_which_other_form_a_line_shows(rt: HostRuntime) -> Result<(), AllocError> {
+    for (line, why) in OTHER_FORMS {
+        for size in [1, 2, 3, 7, 100] {
+            assert_second(&rt, rt.alloc(), line, why, size)?;
+        }
+    }
+    Ok(())
+}
+
+/// Asserts what is told of a line behind a document, where reads give so many bytes.
+fn assert_second(
+    rt: &impl Abort,
+    alloc: Global,
+    line: &str,
+    why: &str,
+    size: usize,
+) -> Result<(), AllocError> {
+    let options = Options {
+        numbered: false,
+        keep_going: true,
+        line_buffered: false,
+        explaining: true,
+        exit_status: false,
+        summary: false,
+        reports: Some(1),
+        limit: None,
+    };
+    let lines = format!(in alloc; "{{}}\n{line}\n{line}\n")?;
+    let told = format!(in alloc; "line 2: document refused: NotJson\nline 2, {why}")?;
+    let mut faults = Narrow::new(alloc, usize::MAX);
+    let input = Trickle {
+        bytes: lines.as_bytes(),
+        size,
+        fails: false,
+    };
+    let ended = run_lines(
+        alloc,
+        "$",
+        Standard,
+        Wanted::Count,
+        options,
+        &mut Device::new(input),
+        &mut Device::new(Narrow::new(alloc, usize::MAX)),
+        &mut Device::new(&mut faults),
+    );
+    assert!(rt; ended.is_ok());
+    assert!(rt; faults.taken.as_slice() == told.as_bytes());
+    Ok(())
+}
+
 #[test]
 fn explains_no_line_that_is_a_document_or_too_large(rt: HostRuntime) -> Result<(), AllocError> {
     let alloc = rt.alloc();
@@ -103,7 +194,7 @@ fn assert_whole(
     let ended = run_program(
         alloc,
         words(alloc, line)?,
-        &mut Device::new(lines.as_bytes()),
+        &mut Alone::new(lines.as_bytes()),
         &mut Device::new(Narrow::new(alloc, 0)),
         &mut Device::new(&mut faults),
     );
@@ -132,7 +223,7 @@ fn assert_prefixes(
         let ended = run_program(
             alloc,
             words(alloc, line)?,
-            &mut Device::new(LINES.as_bytes()),
+            &mut Alone::new(LINES.as_bytes()),
             &mut Device::new(Narrow::new(alloc, usize::MAX)),
             &mut Device::new(&mut faults),
         );

@@ -1,6 +1,6 @@
 //! Lines that are kept by an expression, byte for byte, and those that are not.
 
-use super::devices::{Narrow, Trickle};
+use super::devices::{Alone, Narrow, Trickle};
 use super::programs::{assert_ends, words};
 use crate::run_program;
 use jp_command::Device;
@@ -104,7 +104,7 @@ fn keeps_the_same_however_many_bytes_a_read_gives(rt: HostRuntime) -> Result<(),
                 rt.alloc(),
                 &["jp-lines", "keep", "@.status >= 500", "--keep-going"],
             )?,
-            &mut Device::new(input),
+            &mut Alone::new(input),
             &mut Device::new(&mut output),
             &mut Device::new(&mut faults),
         );
@@ -181,7 +181,7 @@ fn assert_prefix(rt: &impl Abort, alloc: Global, room: usize) -> Result<(), Allo
             alloc,
             &["jp-lines", "keep", "--keep-going", "@.status >= 500"],
         )?,
-        &mut Device::new(LOG.as_bytes()),
+        &mut Alone::new(LOG.as_bytes()),
         &mut Device::new(&mut output),
         &mut Device::new(&mut faults),
     );

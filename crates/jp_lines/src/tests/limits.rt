@@ -144,6 +144,8 @@ fn tells_how_many_steps_were_made(rt: HostRuntime) -> Result<(), AllocError> {
         line_buffered: false,
         explaining: false,
         exit_status: false,
+        summary: false,
+        reports: None,
         limit: Some(7),
     };
     let mut output = Narrow::new(rt.alloc(), usize::MAX);

@@ -1,6 +1,6 @@
 //! What the program writes and tells with each status.
 
-use super::devices::{Narrow, Trickle, Unflushed};
+use super::devices::{Alone, Narrow, Trickle, Unflushed};
 use crate::run_program;
 use jp_command::Device;
 use std::alloc::{AllocError, Global};
@@ -42,7 +42,7 @@ pub fn assert_ends(
     let ended = run_program(
         alloc,
         words(alloc, line)?,
-        &mut Device::new(input),
+        &mut Alone::new(input),
         &mut Device::new(&mut output),
         &mut Device::new(&mut faults),
     );
@@ -142,7 +142,7 @@ fn flushes_after_each_document_where_that_is_asked_for(rt: HostRuntime) -> Resul
     let ended = run_program(
         rt.alloc(),
         words(rt.alloc(), &["jp-lines", "eval", "--line-buffered", "$[0]"])?,
-        &mut Device::new(b"[1]\n[2]\n".as_slice()),
+        &mut Alone::new(b"[1]\n[2]\n".as_slice()),
         &mut Device::new(&mut output),
         &mut Device::new(&mut faults),
     );
@@ -192,11 +192,11 @@ fn long_query(alloc: Global) -> Result<String, AllocError> {
 
 #[test]
 fn refuses_words_that_name_no_run(rt: HostRuntime) -> Result<(), AllocError> {
-    let lines: [&[&str]; 14] = [
+    let lines: [&[&str]; 15] = [
         &["jp-lines"],
         &["jp-lines", "check", "$"],
         &["jp-lines", "eval"],
-        &["jp-lines", "eval", "$", "$"],
+        &["jp-lines", "count", "--raw", "$"],
         &["jp-lines", "eval", "--number", "--number", "$"],
         &["jp-lines", "keep"],
         &["jp-lines", "keep", "--first", "@"],
@@ -207,6 +207,7 @@ fn refuses_words_that_name_no_run(rt: HostRuntime) -> Result<(), AllocError> {
         &["jp-lines", "eval", "--limit=-1", "$"],
         &["jp-lines", "eval", "--limit", "18446744073709551616", "$"],
         &["jp-lines", "eval", "--limit", "1", "--limit", "1", "$"],
+        &["jp-lines", "eval", "--reports", "few", "$"],
     ];
     for line in lines {
         let mut input = Trickle {
@@ -219,7 +220,7 @@ fn refuses_words_that_name_no_run(rt: HostRuntime) -> Result<(), AllocError> {
         let ended = run_program(
             rt.alloc(),
             words(rt.alloc(), line)?,
-            &mut Device::new(&mut input),
+            &mut Alone::new(&mut input),
             &mut Device::new(&mut output),
             &mut Device::new(&mut faults),
         );
@@ -267,7 +268,7 @@ fn writes_help_and_the_version(rt: HostRuntime) -> Result<(), Fail> {
         let ended = run_program(
             rt.alloc(),
             words(rt.alloc(), line)?,
-            &mut Device::new(&mut lines),
+            &mut Alone::new(&mut lines),
             &mut Device::new(&mut output),
             &mut Device::new(&mut faults),
         );
@@ -289,7 +290,7 @@ fn tells_that_help_could_not_be_written(rt: HostRuntime) -> Result<(), AllocErro
         let ended = run_program(
             rt.alloc(),
             words(rt.alloc(), &["jp-lines", "--help"])?,
-            &mut Device::new(b"[1]".as_slice()),
+            &mut Alone::new(b"[1]".as_slice()),
             &mut Device::new(&mut output),
             &mut Device::new(&mut faults),
         );
@@ -303,7 +304,7 @@ fn tells_that_help_could_not_be_written(rt: HostRuntime) -> Result<(), AllocErro
     let ended = run_program(
         rt.alloc(),
         words(rt.alloc(), &["jp-lines", "--version"])?,
-        &mut Device::new(b"[1]".as_slice()),
+        &mut Alone::new(b"[1]".as_slice()),
         &mut Device::new(&mut output),
         &mut Device::new(&mut faults),
     );
@@ -314,17 +315,17 @@ fn tells_that_help_could_not_be_written(rt: HostRuntime) -> Result<(), AllocErro
 }
 
 #[test]
-fn tells_where_the_name_of_a_file_goes(rt: HostRuntime) -> Result<(), Fail> {
+fn tells_where_the_names_of_files_go(rt: HostRuntime) -> Result<(), Fail> {
     let mut faults = Narrow::new(rt.alloc(), usize::MAX);
     let ended = run_program(
         rt.alloc(),
-        words(rt.alloc(), &["jp-lines", "eval", "$", "d.jsonl"])?,
-        &mut Device::new(b"[1]".as_slice()),
+        words(rt.alloc(), &["jp-lines", "eval", "--file", "d.jsonl", "$"])?,
+        &mut Alone::new(b"[1]".as_slice()),
         &mut Device::new(Narrow::new(rt.alloc(), usize::MAX)),
         &mut Device::new(&mut faults),
     );
     let text = str::from_utf8(faults.taken.as_slice())?;
-    let part = "\nUsage: jp-lines eval [OPTIONS] <QUERY> < FILE\n";
+    let part = "\nUsage: jp-lines eval [OPTIONS] <QUERY> [FILE]..\n";
     assert!(rt; ended == 2 && text.contains(part), "{text}");
     Ok(())
 }
@@ -336,7 +337,7 @@ fn explains_a_refused_query_until_a_write_fails(rt: HostRuntime) -> Result<(), A
         let ended = run_program(
             rt.alloc(),
             words(rt.alloc(), &["jp-lines", "count", "$[?distinct(@[*])]"])?,
-            &mut Device::new(b"[]".as_slice()),
+            &mut Alone::new(b"[]".as_slice()),
             &mut Device::new(Narrow::new(rt.alloc(), usize::MAX)),
             &mut Device::new(&mut faults),
         );
@@ -356,7 +357,7 @@ fn tells_that_a_flush_failed(rt: HostRuntime) -> Result<(), AllocError> {
         let ended = run_program(
             rt.alloc(),
             words(rt.alloc(), &["jp-lines", "eval", "$[0]"])?,
-            &mut Device::new(lines.as_bytes()),
+            &mut Alone::new(lines.as_bytes()),
             &mut Device::new(&mut output),
             &mut Device::new(&mut faults),
         );
@@ -381,7 +382,7 @@ fn tells_a_flush_that_failed_after_a_read_that_did(rt: HostRuntime) -> Result<()
     let ended = run_program(
         rt.alloc(),
         words(rt.alloc(), &["jp-lines", "eval", "$[0]"])?,
-        &mut Device::new(input),
+        &mut Alone::new(input),
         &mut Device::new(&mut output),
         &mut Device::new(&mut faults),
     );
@@ -398,7 +399,7 @@ fn flushes_no_output_whose_write_failed(rt: HostRuntime) -> Result<(), AllocErro
     let ended = run_program(
         rt.alloc(),
         words(rt.alloc(), &["jp-lines", "eval", "$[0]"])?,
-        &mut Device::new(b"[1]\n[2]\n".as_slice()),
+        &mut Alone::new(b"[1]\n[2]\n".as_slice()),
         &mut Device::new(&mut output),
         &mut Device::new(&mut faults),
     );
@@ -415,7 +416,7 @@ fn writes_no_more_faults_after_one_that_failed(rt: HostRuntime) -> Result<(), Al
     let ended = run_program(
         rt.alloc(),
         words(rt.alloc(), &["jp-lines", "eval", "--keep-going", "$[0]"])?,
-        &mut Device::new(b"x\n[1]\n".as_slice()),
+        &mut Alone::new(b"x\n[1]\n".as_slice()),
         &mut Device::new(&mut output),
         &mut Device::new(&mut faults),
     );

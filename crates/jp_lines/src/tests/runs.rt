@@ -19,6 +19,8 @@ const PLAIN: Options = Options {
     line_buffered: false,
     explaining: false,
     exit_status: false,
+    summary: false,
+    reports: None,
     limit: None,
 };
 
@@ -97,7 +99,7 @@ fn assert_says(
         &mut Device::new(&mut faults),
     );
     let said = match run {
-        Ok(tally) => format!(in alloc; "{} {}", tally.refused, tally.selected)?,
+        Ok(tally) => format!(in alloc; "{} {} {}", tally.documents, tally.refused, tally.selected)?,
         Err(stop) => format!(in alloc; "{stop}")?,
     };
     assert_eq!(rt; said.as_str(), answer);
@@ -127,14 +129,14 @@ fn goes_on_or_stops_after_a_line_that_is_no_document(rt: HostRuntime) -> Result<
             alloc,
             NUMBERED,
             whole(FIVE, size),
-            ("true true", values, TOLD, 3),
+            ("2 2 3", values, TOLD, 3),
         )?;
         assert_says(
             &rt,
             alloc,
             COUNTED,
             whole(FIVE, size),
-            ("true true", "1\n2\n", TOLD, 0),
+            ("2 2 3", "1\n2\n", TOLD, 0),
         )?;
     }
     Ok(())
@@ -148,7 +150,7 @@ fn writes_nothing_of_lines_without_documents(rt: HostRuntime) -> Result<(), Allo
             rt.alloc(),
             NUMBERED,
             whole(lines, 3),
-            ("false false", "", "", flushes),
+            ("0 0 0", "", "", flushes),
         )?;
     }
     Ok(())
@@ -272,13 +274,52 @@ fn goes_on_where_a_refusal_cannot_be_told(rt: HostRuntime) -> Result<(), AllocEr
         told_room: 4,
         ..whole("x\n{\"a\":1}\nx\n", 100)
     };
-    assert_says(
-        &rt,
-        rt.alloc(),
-        COUNTED,
-        lines,
-        ("true true", "1\n", "line", 0),
-    )
+    assert_says(&rt, rt.alloc(), COUNTED, lines, ("1 2 1", "1\n", "line", 0))
+}
+
+#[test]
+fn tells_no_more_refusals_than_it_is_to(rt: HostRuntime) -> Result<(), AllocError> {
+    let lines = "x\n{\"a\":1}\n\n[\n[1.5]\n{\"a\":2}";
+    let first = "line 1: document refused: NotJson\n";
+    let two = "line 1: document refused: NotJson\nline 4: document refused: NotJson\n";
+    let all = "line 1: document refused: NotJson\nline 4: document refused: NotJson\n\
+        line 5: document refused: NotWhole at $[0]\n";
+    let rows = [
+        (Some(0), ""),
+        (Some(1), first),
+        (Some(2), two),
+        (Some(3), all),
+        (Some(u64::MAX), all),
+        (None, all),
+    ];
+    for (reports, told) in rows {
+        let way = (
+            Wanted::Count,
+            Options {
+                keep_going: true,
+                reports,
+                ..PLAIN
+            },
+        );
+        for size in [1, 5, 100] {
+            let ended = ("2 3 2", "1\n1\n", told, 0);
+            assert_says(&rt, rt.alloc(), way, whole(lines, size), ended)?;
+        }
+    }
+    Ok(())
+}
+
+#[test]
+fn stops_at_a_refusal_however_many_it_is_to_tell(rt: HostRuntime) -> Result<(), AllocError> {
+    let way = (
+        Wanted::Count,
+        Options {
+            reports: Some(0),
+            ..PLAIN
+        },
+    );
+    let stop = ("line 2: document refused: NotJson", "1\n", "", 0);
+    assert_says(&rt, rt.alloc(), way, whole(THREE, 100), stop)
 }
 
 #[test]

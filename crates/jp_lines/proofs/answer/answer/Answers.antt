@@ -12,5 +12,5 @@ returns-then-line-gt-DOCUMENT_LIMIT-clause-answers g c =
 pub returns-then-is_blank_line-clause-answers : goal.returns-then-is_blank_line-clause-answers
 returns-then-is_blank_line-clause-answers g c =
     answers-blank g.W.Writer.contents g.W.Writer.has_failed c.args.asked.options
-    (task_of c.args.asked.task) c.args.number c.args.line.now _
+    (task_of c.args.asked.task) c.args.number c.args.line.now c.args.output.now
     c.if-line-gt-DOCUMENT_LIMIT.false (sym c.if-is_blank_line.ensures)

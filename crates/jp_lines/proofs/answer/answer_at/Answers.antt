@@ -5,7 +5,7 @@ use Rattle.jp_command.specs.Output.{StopsWriting, WritesAll}
 use Rattle.jp_reading.specs.Characters.{tab}
 use Rattle.jp_lines.specs.Outcome.{lead_of}
 use Rattle.jp_lines.specs.Views.{selection_task}
-use Rattle.jp_lines.proofs.FoundValues.{found-selects, found-wanted}
+use Rattle.jp_lines.proofs.FoundValues.{found-counted, found-wanted}
 use Rattle.jp_lines.proofs.LineLemmas.{answers-document, err-is, refuses-document, stops-document}
 use Rattle.jp_lines.proofs.answer.answer_at.Goals as goal
 
@@ -48,8 +48,8 @@ returns-in_ok-selected-in-Ok-clause-answers g c =
     c.requires.few c.requires.some found.is
     (subst (WritesAll g.W.Writer.contents g.W.Writer.has_failed c.args.output.now
     c.write_wanted_at.new.output) wanted c.in_ok-selected-in-Ok.ensures.ok)
-    c.in_ok-selected-in-Ok.selected (c.in_ok-selected-in-Ok.ensures.some
-    ∙ found-selects lent_flat q found.document ks c.found_value-value.result c.requires.named
+    c.in_ok-selected-in-Ok.selected (c.in_ok-selected-in-Ok.ensures.count
+    ∙ found-counted lent_flat c.args.selection.extent q found.document ks c.found_value-value.result c.requires.named
     (found.at ∙ sym c.found_value-value.ensures))
 
 pub returns-in-Err-clause-answers : goal.returns-in-Err-clause-answers

@@ -14,7 +14,7 @@ pub loop-end-init : goal.loop-end-init
 loop-end-init g c = record {
   taken = [];
   is = refl;
-  passes = λ line keeps. on-none c.args.asked.options g.W.Writer.contents g.W.Writer.has_failed
+  passes = λ line keeps. on-none c.args.asked.options c.args.asked.lead.now g.W.Writer.contents g.W.Writer.has_failed
       g.E.Writer.contents g.E.Writer.has_failed (task_of c.args.asked.task)
       c.args.progress.now line c.args.output.now c.args.faults.now keeps;
 }
@@ -23,7 +23,7 @@ pub returns-in_err-keep-clause-stopped : goal.returns-in_err-keep-clause-stopped
 returns-in_err-keep-clause-stopped g c =
     err-is c.from_residual.result (stop.Run fault.NoMemory) _ c.from_residual.ensures.1
     (λ line keeps. rw c.loop-end.invariant.is
-    (on-stops_keeping c.args.asked.options g.W.Writer.contents g.W.Writer.has_failed
+    (on-stops_keeping c.args.asked.options c.args.asked.lead.now g.W.Writer.contents g.W.Writer.has_failed
     g.E.Writer.contents g.E.Writer.has_failed (task_of c.args.asked.task)
     c.loop-end.invariant.taken c.loop-end.rest.now c.args.progress.now c.loop-end.progress line
     _ _ _ _ (c.loop-end.invariant.passes line keeps)))
@@ -33,7 +33,7 @@ returns-in_err-keep-2-clause-stopped g c =
     err-is c.from_residual-in_err-keep-2.result (stop.Run fault.NoMemory) _
     c.from_residual-in_err-keep-2.ensures.1
     (λ line keeps. rw c.loop-end.invariant.is
-    (on-stops_keeping c.args.asked.options g.W.Writer.contents g.W.Writer.has_failed
+    (on-stops_keeping c.args.asked.options c.args.asked.lead.now g.W.Writer.contents g.W.Writer.has_failed
     g.E.Writer.contents g.E.Writer.has_failed (task_of c.args.asked.task)
     c.loop-end.invariant.taken c.loop-end.rest.now c.args.progress.now c.loop-end.progress line
     _ _ _ _ (c.loop-end.invariant.passes line keeps)))
@@ -55,13 +55,14 @@ returns-in_err-end_line-clause-stopped g c =
     c.from_residual-in_err-end_line.ensures.1
     (λ line keeps.
     let kept = record c.loop-end.progress { line = c.keep.new.line } in
-    let on = on-kept c.args.asked.options g.W.Writer.contents g.W.Writer.has_failed
+    let on = on-kept c.args.asked.options c.args.asked.lead.now g.W.Writer.contents g.W.Writer.has_failed
     g.E.Writer.contents g.E.Writer.has_failed task taken piece c.args.progress.now
     c.loop-end.progress kept line _ _ _ _ (c.loop-end.invariant.passes line keeps) found.0 refl refl
     c.in_ok-keep.ensures in
     rw bytes
-    (on-stops_ending c.args.asked.options g.W.Writer.contents g.W.Writer.has_failed
-    g.E.Writer.contents g.E.Writer.has_failed task (taken ++ piece) more c.args.progress.now kept line
+    (on-stops_ending c.args.asked.options c.args.asked.lead.now g.W.Writer.contents g.W.Writer.has_failed
+    g.E.Writer.contents g.E.Writer.has_failed task (taken ++ piece) more c.args.progress.now kept
+    c.end_line.new.progress line
     _ _ _ _ _ _ c.in_err-end_line.field-0.0 on
     (c.in_err-end_line.ensures.stopped on.next on.keeps)))
 
@@ -83,11 +84,11 @@ loop-end-preserved g c =
           ∙ ap (λ l. ((taken ++ piece) ++ newline ∷ []) ++ l)
           (sym (behind-place rest c.in-Some.end));
       passes = λ line keeps.
-          let on = on-kept c.args.asked.options g.W.Writer.contents g.W.Writer.has_failed
+          let on = on-kept c.args.asked.options c.args.asked.lead.now g.W.Writer.contents g.W.Writer.has_failed
           g.E.Writer.contents g.E.Writer.has_failed task taken piece c.args.progress.now
           c.loop-end.progress _ line _ _ _ _ (c.loop-end.invariant.passes line keeps) found.0 refl
           refl c.in_ok-keep.ensures in
-          on-ended c.args.asked.options g.W.Writer.contents g.W.Writer.has_failed
+          on-ended c.args.asked.options c.args.asked.lead.now g.W.Writer.contents g.W.Writer.has_failed
           g.E.Writer.contents g.E.Writer.has_failed task (taken ++ piece) c.args.progress.now _
           c.end_line.new.progress line _ _ _ _ _ _ on
           (c.in_ok-end_line.ensures.ended on.next on.keeps);
@@ -98,14 +99,14 @@ returns-then-not-asked-clause-stopped g c = λ line keeps.
     let task = task_of c.args.asked.task in
     let rest = c.loop-end.rest.now in
     let kept = record c.loop-end.progress { line = c.keep-2.new.line } in
-    let on = on-kept c.args.asked.options g.W.Writer.contents g.W.Writer.has_failed
+    let on = on-kept c.args.asked.options c.args.asked.lead.now g.W.Writer.contents g.W.Writer.has_failed
     g.E.Writer.contents g.E.Writer.has_failed task c.loop-end.invariant.taken rest
     c.args.progress.now c.loop-end.progress kept line _ _ _ _
     (c.loop-end.invariant.passes line keeps)
     (none-found rest (λ k below. c.in_default.ensures k (omega arith) below)) refl refl
     c.in_ok-keep-2.ensures in
     rw c.loop-end.invariant.is
-    (on-stops_growing c.args.asked.options g.W.Writer.contents g.W.Writer.has_failed
+    (on-stops_growing c.args.asked.options c.args.asked.lead.now g.W.Writer.contents g.W.Writer.has_failed
     g.E.Writer.contents g.E.Writer.has_failed task (c.loop-end.invariant.taken ++ rest)
     c.args.progress.now kept line _ _ _ _ _ on (search rules) refl refl (search rules)
     (search rules))
@@ -114,7 +115,7 @@ pub returns-clause-passes : goal.returns-clause-passes
 returns-clause-passes g c = λ line keeps.
     let rest = c.loop-end.rest.now in
     rw c.loop-end.invariant.is
-    (on-kept c.args.asked.options g.W.Writer.contents g.W.Writer.has_failed
+    (on-kept c.args.asked.options c.args.asked.lead.now g.W.Writer.contents g.W.Writer.has_failed
     g.E.Writer.contents g.E.Writer.has_failed (task_of c.args.asked.task)
     c.loop-end.invariant.taken rest c.args.progress.now c.loop-end.progress _ line _ _ _ _
     (c.loop-end.invariant.passes line keeps)

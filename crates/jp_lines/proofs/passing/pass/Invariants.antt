@@ -9,7 +9,7 @@ invariant-loop-end g l = record {
   taken : List ℕ;
   is : l.fn.bytes ≡ taken ++ l.rest;
   passes : (line : List ℕ) → Keeps l.fn.progress line
-      → PassesOn l.fn.asked.options g.W.Writer.contents g.W.Writer.has_failed
+      → PassesOn l.fn.asked.options l.fn.asked.lead.now g.W.Writer.contents g.W.Writer.has_failed
       g.E.Writer.contents g.E.Writer.has_failed (task_of l.fn.asked.task) taken
       l.fn.progress l.progress line l.fn.output l.output l.fn.faults l.faults;
 }
