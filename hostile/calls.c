@@ -1,10 +1,12 @@
 /* Stands before the C library's reads and writes of a program that it is loaded before.
  *
- * It fails one read of the standard input, the one whose number, from 1, is in FAILED_READ, and one
- * write to the standard output, by FAILED_WRITE; those behind it work. Where READ_AT_MOST is set, a
- * read gives no more bytes than that. Where TELL_CALLS is set, it writes to descriptor 3 at the
- * program's end how many of both were made. */
+ * It fails one read of the standard input or of a file, the one whose number, from 1, is in FAILED_READ,
+ * and one write to the standard output, by FAILED_WRITE; those behind it work. Where READ_AT_MOST is set, a
+ * read gives no more bytes than that. Where OPEN_FAULT is set, no file can be opened, by the fault of that
+ * number. Where TELL_CALLS is set, it writes to descriptor 3 at the program's end how many reads and writes
+ * were made. */
 #include <errno.h>
+#include <fcntl.h>
 #include <stdio.h>
 #include <stdlib.h>
 #include <sys/syscall.h>
@@ -20,7 +22,7 @@ static long number_in(const char *word) {
 }
 
 ssize_t read(int descriptor, void *bytes, size_t size) {
-    if (descriptor == 0) {
+    if (descriptor != 3) {
         size_t most = number_in("READ_AT_MOST");
         if (++reads == number_in("FAILED_READ")) {
             errno = EIO;
@@ -31,6 +33,16 @@ ssize_t read(int descriptor, void *bytes, size_t size) {
         }
     }
     return syscall(SYS_read, descriptor, bytes, size);
+}
+
+/* The program makes no files, so no mode stands behind the flags. */
+int open(const char *path, int flags, ...) {
+    long fault = number_in("OPEN_FAULT");
+    if (fault != 0) {
+        errno = (int)fault;
+        return -1;
+    }
+    return (int)syscall(SYS_openat, AT_FDCWD, path, flags, 0);
 }
 
 ssize_t write(int descriptor, const void *bytes, size_t size) {

@@ -1,6 +1,7 @@
 """What the hostile runs share: runs of a built program, with each request for memory, each read or each
 write failing in turn, or with little stack; and their count."""
 import os
+import re
 import resource
 import shutil
 import subprocess
@@ -103,20 +104,22 @@ def held_at_most(program, library, words, document):
     return given, int(told)
 
 
-def refuse_growths(runs, library, program, words, document, whole, less=None, **environment):
+def refuse_growths(runs, library, program, words, document, whole, less=(), closing="", **environment):
     """Refuses each request of a run, one a run: it gives what it gives with ample memory, `whole`, or
-    status 4 with its line and a prefix of that on both streams; or `less`, where that is given, which
-    lacks what a run can do without. The statuses of the refused runs."""
+    status 4 with its line and a prefix of that on both streams; or one of `less`, which lack what a run
+    can do without. What a run tells at its end all the same, the expression `closing` finds.
+    The statuses of the refused runs."""
     statuses = []
     number = 1
     while True:
         came, given = refused_run(program, library, number, words, document, **environment)
         status, printed, line = given
+        line = re.sub(f"(?:{closing})$", "", line)
         told = line.removesuffix("want of memory\n")
         is_prefix = whole[1].startswith(printed) and line != told and whole[2].startswith(told)
         stopped = came and status == 4 and is_prefix
         what = f"{words} with request {number} refused: {status} {printed!r} {line!r}"
-        lacks = came and given == less
+        lacks = came and given in less
         runs.expect(given == whole or stopped or lacks, what)
         if not came:
             break
@@ -130,7 +133,7 @@ def refuse_growths(runs, library, program, words, document, whole, less=None, **
 
 
 def counted_run(program, calls, words, document, output=None, **environment):
-    """What a run gave, and how many reads of its input and writes to its output it made."""
+    """What a run gave, and how many reads of its inputs and writes to its output it made."""
     inner, outer = os.pipe()
     environment |= {"LD_PRELOAD": calls, "TELL_CALLS": "1"}
     given = run(program, words, document, environment, marks=outer, output=output)
@@ -140,10 +143,10 @@ def counted_run(program, calls, words, document, output=None, **environment):
     return given, int(reads), int(writes)
 
 
-def spoil_output(runs, calls, program, words, document):
-    """Runs whose first write fails: on a full device, on a pipe that its reader has closed, and on a
-    device that fails once. No run writes again."""
-    ended = (5, "", "write fault\n")
+def spoil_output(runs, calls, program, words, document, hung_up="write fault\n", closing=""):
+    """Runs whose first write fails: on a full device, on a pipe that its reader has closed, where `hung_up` is
+    told, and on a device that fails once. No run writes again. `closing` is told at the end of others."""
+    ended = (5, "", "write fault\n" + closing)
     with open("/dev/full", "wb") as full:
         given = counted_run(program, calls, words, document, output=full)
     runs.expect((given[0], given[2]) == (ended, 1), f"{words} on a full device: {given}")
@@ -151,7 +154,7 @@ def spoil_output(runs, calls, program, words, document):
     os.close(inner)
     given = counted_run(program, calls, words, document, output=outer)
     os.close(outer)
-    runs.expect((given[0], given[2]) == (ended, 1), f"{words} on a closed pipe: {given}")
+    runs.expect((given[0], given[2]) == ((5, "", hung_up), 1), f"{words} on a closed pipe: {given}")
     given = counted_run(program, calls, words, document, FAILED_WRITE="1")
     runs.expect((given[0], given[2]) == (ended, 1), f"{words} on a device that fails once: {given}")
 
