@@ -1,6 +1,5 @@
 -- The files of lemmas. `pub` are those that proofs of other crates may name.
 mod LentAnswers
-mod CopiedFaults
 mod HeldValues
 mod Explaining
 mod Outcomes

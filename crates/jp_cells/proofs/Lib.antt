@@ -1,5 +1,4 @@
 -- The files of lemmas. `pub` are those that proofs of other crates may name.
-pub mod Counting
 pub mod Joining
 pub mod Lists
 pub mod Marks

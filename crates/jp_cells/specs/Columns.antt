@@ -1,8 +1,8 @@
 -- The row of a document: a cell for each query.
 use Rattle.std.specs.Prelude.{ℕ, Bool, List, length, map}
-use Rattle.std.specs.List.{flat_map, list_any}
+use Rattle.std.specs.List.{flat_map}
 use Rattle.jp_document.specs.Value.{Value}
-use Rattle.jp_evaluate.specs.Nodelist.{has_node, nodelist}
+use Rattle.jp_evaluate.specs.Nodelist.{nodelist}
 use Rattle.jp_tree.specs.Tree.{QueryTree}
 use Rattle.jp_cells.specs.Cells.{cell_text, values_in}
 use Rattle.jp_cells.specs.Rows.{row_text}
@@ -15,10 +15,6 @@ cell_of raw d q = cell_text raw (values_in (nodelist q d))
 -- how many nodes the queries select in the document d, all together
 abbrev pub nodes_in : Value → List QueryTree → ℕ
 nodes_in d qs = length (flat_map (λ q. nodelist q d) qs)
-
--- one of the queries selects a node in the document d
-abbrev pub some_node_in : Value → List QueryTree → Bool
-some_node_in d qs = list_any (λ q. has_node (nodelist q d)) qs
 
 -- the row of the cells of these queries, in their order
 abbrev pub columns_text : Style → List QueryTree → Value → List ℕ
