@@ -12,6 +12,18 @@ CRATES = ROOT / "crates"
 NAMED_BY_THEIR_FOLDER = {"Answers.antt", "Invariants.antt"}
 LISTS_OF_MODULES = {"Lib.antt", "Private.antt"}
 PARTS = (("Code", "src", ".rt"), ("Definitions", "specs", ".antt"), ("Proofs", "proofs", ".antt"))
+# What may be changed in the files of a part.
+MAY_CHANGE = {
+    "src": "A function's contract is what its callers rest on; its body may be changed as long as it is proved. Of what a"
+    " function without a contract gives, nothing is promised. What a test wants was found by hand, and not by a run; tests"
+    " are not counted among the users where they go by the root of the crate.",
+    "specs": "These say what is proved, so a change here is one of what jp does, or of how that is said. `Lib.antt` and"
+    " `Private.antt` list the files, each new one too; what stands in `Private/` is cited by private functions, and by the"
+    " invariants and conversions of types, which callers do not read.",
+    "proofs": "A lemma says what the users behind it need; any proof of it that passes will do. A definition that"
+    " stands here serves proofs alone, and may be changed as long as they pass. What an example of `Rows` or `Standard` says"
+    " was found by hand: where one fails, a definition is wrong. `Lib.antt` lists the files, `pub` those that other crates name.",
+}
 # How many users of one kind are named.
 MOST_NAMED = 6
 
@@ -61,11 +73,13 @@ def file_named(crate, part, words):
 
 @functools.cache
 def users_of_definitions():
-    """For each file of definitions or proofs, the files that import it."""
+    """For each file of definitions or proofs, the files that import it, or name it in a tactic."""
     users = {}
-    for _, _, path in all_files():
-        for crate, part, name in re.findall(r"use Rattle\.(\w+)\.(specs|proofs)\.([\w.-]+)", text_of(path)):
-            found = file_named(crate, part, name.strip(".").split("."))
+    for home, _, path in all_files():
+        named = re.findall(r"use Rattle\.(\w+)\.(specs|proofs)\.([\w.-]+)", text_of(path))
+        named += [(home, part, name) for part, name in re.findall(r"\bcrate::(specs|proofs)::([\w:-]+)", text_of(path))]
+        for crate, part, name in named:
+            found = file_named(crate, part, re.split(r"\.|::", name.strip(".:")))
             if found and found != path:
                 users.setdefault(found, set()).add(path)
     return users
@@ -101,7 +115,12 @@ def uses_module(crate, other, module):
     if folder and last in imported(text, "crate::" + "::".join(folder)):
         return True
     at = module_of(crate, other)
-    is_near = at[:-1] == folder or at == folder
+    if at[:-1] == module and re.search(r"\bsuper::", text):
+        return True
+    is_above = at == folder
+    if folder and is_above and re.search(rf"(?<![\w:]){last}::\w", text):
+        return True
+    is_near = at[:-1] == folder or is_above
     return is_near and bool(re.search(rf"\b(super|self)::{last}\b|^use {last}::", text, re.MULTILINE))
 
 
@@ -121,6 +140,9 @@ def users_of_code(crate):
         public = {name for known, of in names.items() if [*known] == module[: len(known)] for name in of}
         if module[0] in ("laws", "lib", "main"):
             public = set()
+        if module[0] == "laws":
+            name = "::".join([crate, *module])
+            inside |= {other for other in others if re.search(rf"\b{name}\b", text_of(other))}
         users[path] = inside | {other for other in others if taken[other] & public}
     return users
 
@@ -138,7 +160,8 @@ def users_of_methods(crate, path):
 
 
 def is_named_by_its_folder(part, path):
-    return part == "proofs" and path.name in NAMED_BY_THEIR_FOLDER
+    is_called_so = part == "proofs" and path.name in NAMED_BY_THEIR_FOLDER
+    return is_called_so and (path.name != "Answers.antt" or ".Goals" in text_of(path))
 
 
 def listed(names):
@@ -167,17 +190,31 @@ def told_users(crate, users):
     return "; ".join(parts)
 
 
+def told_instead(crate, part, path):
+    """What is told of a file that no other names."""
+    words = path.relative_to(CRATES / crate / part).with_suffix("").parts
+    if part == "src":
+        if words[0] == "laws":
+            return " Nothing calls it."
+        return " Tests." if "tests" in words or (crate == "jp_tests" and words != ("lib",)) else ""
+    if part == "proofs" and (words[-1].endswith("Rows") or {"Rows", "Standard"} & {*words}):
+        return " Examples that the prover computes; nothing cites them."
+    if path.name == "Proof.antt":
+        return " Only the prover uses it."
+    return f" It lists the files of `{path.stem}/`." if re.search(r"^pub mod ", text_of(path), re.MULTILINE) else ""
+
+
 def item(crate, part, path):
     users = (users_of_code(crate) if part == "src" else users_of_definitions()).get(path, set())
     if part == "src" and not users:
         users = users_of_methods(crate, path)
     told = told_users(crate, users)
     if part == "src" and "no_mangle" in text_of(path):
-        told = "; ".join([*filter(None, [told]), "callers in C"])
+        told = "; ".join([*filter(None, [told]), "callers in C, by the names and parameters that `bindings/c/jp.h` has, too"])
     name = path.relative_to(CRATES / crate / part)
     if not head(path):
         raise Nameless(path.relative_to(ROOT))
-    return f"- [`{name}`]({part}/{name}): {head(path)}" + (f" Used by: {told}." if told else "")
+    return f"- [`{name}`]({part}/{name}): {head(path)}" + (f" Used by: {told}." if told else told_instead(crate, part, path))
 
 
 def page(crate):
@@ -185,13 +222,16 @@ def page(crate):
     top = next(path for path in files_of(crate, "src", ".rt") if path.name in ("lib.rt", "main.rt"))
     yield f"# {crate}\n\n{head(top)} [HOUSE](../../docs/HOUSE.md) has all crates."
     yield "\n`.ci/house --write` makes this page from the files. Behind what a file is for stands who uses it: files of"
-    yield "this crate, then other crates."
+    yield "the code, of definitions, of proofs, and answers of functions, with `;` between, then other crates."
     for title, part, ending in PARTS:
         paths = [path for path in files_of(crate, part, ending) if path.name not in LISTS_OF_MODULES]
         functions = {path.parent for path in paths if is_named_by_its_folder(part, path)}
         if paths:
-            yield f"\n## {title}\n"
+            yield f"\n## {title}\n\n{MAY_CHANGE[part]}\n"
         yield from (item(crate, part, path) for path in paths if path.parent not in functions)
         if functions:
             folders = "1 folder" if len(functions) == 1 else f"{len(functions)} folders"
-            yield f"- {folders} of answers and invariants, each named for its function or its cycle of functions"
+            yield (f"- {folders} of `Answers.antt` and `Invariants.antt`: `FILE/FUNCTION/` has what the prover needs to be told of"
+                   " FUNCTION in `src/FILE.rt` (`FILE/TYPE/METHOD/`: of a method; `+NAME/`: of a cycle of functions), and only the"
+                   " prover uses it. The goals that it imports are printed by `rt check --start FUNCTION --allow-holes`. Any answer"
+                   " that passes will do; an invariant changes with the answers beside it, or freely where there are none.")

@@ -254,7 +254,7 @@ pub(crate) fn next_shown<'d: 'q, 'q, V: Selectable + 'd>(
     }
 }
 
-/// The same of an evaluation that may make all the steps that it takes.
+/// The value of the next node of an evaluation that may make all the steps that it takes.
 fn next_unlimited<'d: 'q, 'q, V: Selectable + 'd>(
     form: Form,
     nodes: &mut LentNodes<'d, 'q, V, Marks>,
