@@ -1,11 +1,13 @@
 //! Reading an input to its end.
 
-ghost use Rattle.std.specs.Prelude.{◌≡◌, IfOk, IfErr, vec_len};
+ghost use Rattle.std.specs.Prelude.{◌≡◌, ◌≤◌, ◌+◌, IfOk, IfErr, OnErr, OnOk, drop, take, true, vec_len};
+ghost use Rattle.std.specs.Io.KnownBytes.{ReadConsumes};
 ghost use Rattle.jp_command.specs.Input.{ReadsAll};
-ghost use Rattle.jp_command.specs.Limits.{chunk_size};
+ghost use Rattle.jp_command.specs.Limits.{chunk_size, document_limit};
 ghost use Rattle.jp_command.specs.Private.Stops.{StopsReading};
+ghost use Rattle.jp_command.specs.Reads.{bytes_moved};
 
-use crate::device::Source;
+use crate::device::{Failed, Source};
 use crate::fault::Fault;
 use crate::limits::{CHUNK_SIZE, DOCUMENT_LIMIT};
 use std::alloc::{AllocError, Global};
@@ -27,17 +29,50 @@ pub(crate) fn read_all<R: Source>(alloc: Global, input: &mut R) -> Result<Vec<u8
         (StopsReading R.remaining R.has_failed R.read_gives input.old input.new) }
 {
     let mut bytes = Vec::new(alloc);
-    let mut chunk = chunk_buffer(alloc)?;
+    let mut count = 0;
     'chunks: loop {
-        let Ok(count) = input.read(chunk.as_mut_slice()) else {
+        make_room(&mut bytes, count)?;
+        let Ok(more) = read_behind(input, &mut bytes, count) else {
             return Err(Fault::Read);
         };
-        if count == 0 {
+        if more == 0 {
+            bytes.truncate(count);
             return Ok(bytes);
         }
-        if count > DOCUMENT_LIMIT - bytes.len() {
+        if more > DOCUMENT_LIMIT - count {
             return Err(Fault::DocumentTooLarge);
         }
-        bytes.extend_from_slice(&chunk[..count])?;
+        count += more;
     }
+}
+
+/// Room for one read behind so many bytes. The only error is that memory ran out.
+#[inline(always)]
+fn make_room(buffer: &mut Vec<u8>, count: usize) -> Result<(), AllocError>
+    requires within { (count ≤ vec_len buffer.old) × (vec_len buffer.old ≤ count + chunk_size) }
+    requires few { count ≤ document_limit }
+    ensures room { OnOk result (vec_len buffer.new ≡ count + chunk_size) }
+    ensures front { OnOk result (take count buffer.new.items ≡ take count buffer.old.items) }
+{
+    buffer.resize(count + CHUNK_SIZE, 0)
+}
+
+/// Reads some bytes behind so many of a buffer, and answers how many.
+#[inline(always)]
+fn read_behind<R: Source>(
+    input: &mut R,
+    buffer: &mut Vec<u8>,
+    count: usize,
+) -> Result<usize, Failed>
+    requires { count ≤ vec_len buffer.old }
+    ensures front { take count buffer.new.items ≡ take count buffer.old.items }
+    ensures len { vec_len buffer.new ≡ vec_len buffer.old }
+    ensures bound { IfOk result (λ more. count + more ≤ vec_len buffer.new) }
+    ensures bytes { ReadConsumes (R.remaining input.old) (R.remaining input.new) result
+        (drop count buffer.new.items) }
+    ensures works { OnOk result (R.has_failed input.new ≡ R.has_failed input.old) }
+    ensures fails { OnErr result (R.has_failed input.new ≡ true) }
+    ensures call { R.read_gives input.old (bytes_moved result (drop count buffer.new.items)) input.new }
+{
+    input.read(&mut buffer[count..])
 }

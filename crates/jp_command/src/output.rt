@@ -8,6 +8,7 @@ use crate::device::{Failed, Writer};
 
 /// Writes all of `bytes`. Where a write fails, what was written is a prefix of them, and no further
 /// write is tried.
+#[inline(always)]
 pub fn write_all<W: Writer>(output: &mut W, bytes: &[u8]) -> Result<(), Failed>
     ensures ok { OnOk result (WritesAll W.contents W.has_failed output.old output.new bytes.now) }
     ensures prefix { OnErr result

@@ -2,7 +2,8 @@
 
 ghost use Rattle.std.specs.Prelude.{◌≡◌, ◌+◌, ◌<◌, ◌≤◌, ◌++◌, ◌∷◌, [], true, false, length};
 ghost use Rattle.std.specs.Prelude.{take, drop, slice_index, string_bytes, OnOk};
-ghost use Rattle.std.specs.Prelude.{All, ◌==◌, nat_lt};
+ghost use Rattle.std.specs.Prelude.{All, ◌==◌, ◌||◌, map, nat_lt};
+ghost use Rattle.std.specs.Simd.Lanes.{mask_l};
 ghost use Rattle.std.specs.Bool.{OnTrue};
 ghost use Rattle.std.specs.List.{flat_map};
 ghost use Rattle.jp_document.specs.Appending.{IsPartAppended};
@@ -11,10 +12,41 @@ ghost use Rattle.jp_document.specs.Spelling.{spelling, quoted_in, hex_digit, con
 use std::alloc::AllocError;
 use std::simd::prelude::*;
 
-/// Appends the text between two of these quotes, each character as it is spelled there. What needs
-/// no spelling of its own is copied in whole runs.
+/// Appends the text between two of these quotes, each character as it is spelled there. A text in which
+/// each stands for itself, as nearly all do, is copied as it is.
 #[inline(always)]
 pub(crate) fn push_quoted(out: &mut String, text: &str, quote: u8) -> Result<(), AllocError>
+    requires { quote < 128 }
+    ensures ok { OnOk result
+        (string_bytes out.new ≡ string_bytes out.old ++ quoted_in quote text.now) }
+    ensures kept { IsPartAppended (string_bytes out.old) (quoted_in quote text.now)
+        (string_bytes out.new) }
+{
+    if is_plain(text.as_bytes(), quote) {
+        push_plain(out, text, quote)
+    } else {
+        push_escaped(out, text, quote)
+    }
+}
+
+/// Appends a text whose bytes stand for themselves, between quotes.
+#[inline(always)]
+fn push_plain(out: &mut String, text: &str, quote: u8) -> Result<(), AllocError>
+    requires ascii { quote < 128 }
+    requires plain { flat_map (spelling quote) text.now ≡ text.now }
+    ensures ok { OnOk result
+        (string_bytes out.new ≡ string_bytes out.old ++ quoted_in quote text.now) }
+    ensures kept { IsPartAppended (string_bytes out.old) (quoted_in quote text.now)
+        (string_bytes out.new) }
+{
+    out.push(char::from(quote))?;
+    out.push_str(text)?;
+    out.push(char::from(quote))
+}
+
+/// Appends any text between quotes. What needs no spelling of its own is copied in whole runs.
+#[inline(never)]
+fn push_escaped(out: &mut String, text: &str, quote: u8) -> Result<(), AllocError>
     requires { quote < 128 }
     ensures ok { OnOk result
         (string_bytes out.new ≡ string_bytes out.old ++ quoted_in quote text.now) }
@@ -24,6 +56,56 @@ pub(crate) fn push_quoted(out: &mut String, text: &str, quote: u8) -> Result<(),
     out.push(char::from(quote))?;
     push_spelled(out, text, quote)?;
     out.push(char::from(quote))
+}
+
+/// Whether all bytes stand for themselves. A text of four bytes or more is looked at in blocks, of which
+/// the last two may overlap.
+#[inline(always)]
+fn is_plain(text: &[u8], quote: u8) -> bool
+    requires { quote < 128 }
+    ensures { OnTrue result (flat_map (spelling quote) text.now ≡ text.now) }
+{
+    match text.len() {
+        0..=3 => plain_len(text, quote) == text.len(),
+        4..=8 => is_plain_by_fours(text, quote),
+        9..=16 => is_plain_by_eights(text, quote),
+        _ => is_plain_long(text, quote),
+    }
+}
+
+/// Whether all bytes stand for themselves, where there are four to eight.
+#[inline(always)]
+fn is_plain_by_fours(text: &[u8], quote: u8) -> bool
+    requires least { 4 ≤ length text.now }
+    requires most { length text.now ≤ 8 }
+    ensures { OnTrue result (flat_map (spelling quote) text.now ≡ text.now) }
+{
+    let first = u8x4::from_slice(text);
+    let last = u8x4::from_slice(&text[text.len() - 4..]);
+    is_plain_block(first.shuffle(last, [0, 1, 2, 3, 4, 5, 6, 7]), quote)
+}
+
+/// Whether all bytes stand for themselves, where there are eight to sixteen.
+#[inline(always)]
+fn is_plain_by_eights(text: &[u8], quote: u8) -> bool
+    requires least { 8 ≤ length text.now }
+    requires most { length text.now ≤ 16 }
+    ensures { OnTrue result (flat_map (spelling quote) text.now ≡ text.now) }
+{
+    let first = u8x8::from_slice(text);
+    let last = u8x8::from_slice(&text[text.len() - 8..]);
+    let both = first.shuffle(last, [0, 1, 2, 3, 4, 5, 6, 7, 8, 9, 10, 11, 12, 13, 14, 15]);
+    is_plain_block(both, quote)
+}
+
+/// Whether all bytes stand for themselves, where there are sixteen or more.
+#[inline(never)]
+fn is_plain_long(text: &[u8], quote: u8) -> bool
+    requires { LANES ≤ length text.now }
+    ensures { OnTrue result (flat_map (spelling quote) text.now ≡ text.now) }
+{
+    let front = plain_blocks(text, quote);
+    text.len() - front < LANES && is_plain_at(text, text.len() - LANES, quote)
 }
 
 #[inline(always)]
@@ -63,43 +145,66 @@ fn plain_len(text: &[u8], quote: u8) -> usize
 
 const LANES: usize = 16;
 
-/// A number of bytes at the start that stand for themselves, a multiple of sixteen.
+/// How many bytes at the start stand for themselves, as far as whole blocks of sixteen tell.
 fn plain_blocks(text: &[u8], quote: u8) -> usize
     ensures within { result ≤ length text.now }
-    ensures plain { flat_map (spelling quote) (take result text.now) ≡ take result text.now }
+    ensures plain { All (λ b. spelling quote b ≡ b ∷ []) (take result text.now) }
 {
     let mut plain = 0;
-    'lanes: while text.len() - plain >= LANES && is_plain_block(text, plain, quote) {
-        plain += LANES;
+    'lanes: while text.len() - plain >= LANES {
+        let next = plain_lanes(u8x16::from_slice(&text[plain..]), quote);
+        plain += next;
+        if next < LANES {
+            break;
+        }
     }
     plain
 }
 
+/// How many bytes of a block stand for themselves before the first other one.
+#[inline(always)]
+fn plain_lanes<const N: usize>(block: Simd<u8, N>, quote: u8) -> usize
+    requires { N ≤ 64 }
+    ensures within { result ≤ N }
+    ensures plain { All (λ b. spelling quote b ≡ b ∷ []) (take result block.entry) }
+{
+    let marked = marks(block, quote);
+    if marked == 0 {
+        N
+    } else {
+        marked.trailing_zeros() as usize
+    }
+}
+
 /// Whether the next sixteen bytes stand for themselves.
 #[inline(always)]
-fn is_plain_block(text: &[u8], from: usize, quote: u8) -> bool
+fn is_plain_at(text: &[u8], from: usize, quote: u8) -> bool
     requires { from + LANES ≤ length text.now }
-    ensures { OnTrue result (flat_map (spelling quote) (take LANES (drop from text.now))
-        ≡ take LANES (drop from text.now)) }
+    ensures { OnTrue result
+        (All (λ b. spelling quote b ≡ b ∷ []) (take LANES (drop from text.now))) }
 {
-    let block = u8x16::from_slice(&text[from..]);
-    lacks_controls(block) & lacks(block, quote) & lacks(block, b'\\')
+    is_plain_block(u8x16::from_slice(&text[from..]), quote)
 }
 
-/// Whether none of the bytes is below a space.
+/// Whether the bytes of a block stand for themselves.
 #[inline(always)]
-fn lacks_controls(block: u8x16) -> bool
-    ensures { OnTrue result (All (λ b. nat_lt b 32 ≡ false) block) }
+fn is_plain_block<const N: usize>(block: Simd<u8, N>, quote: u8) -> bool
+    requires { N ≤ 64 }
+    ensures { OnTrue result (All (λ b. spelling quote b ≡ b ∷ []) block.entry) }
 {
-    block.simd_lt(u8x16::splat(b' ')).to_bitmask() == 0
+    marks(block, quote) == 0
 }
 
-/// Whether none of the bytes is this one.
+/// The bytes of a block that have a spelling of their own, a bit for each.
 #[inline(always)]
-fn lacks(block: u8x16, byte: u8) -> bool
-    ensures { OnTrue result (All (λ b. (b == byte) ≡ false) block) }
+fn marks<const N: usize>(block: Simd<u8, N>, quote: u8) -> u64
+    requires { N ≤ 64 }
+    ensures { result
+        ≡ mask_l (map (λ b. (nat_lt b 32 || b == quote) || b == 92) block.entry) }
 {
-    block.simd_eq(u8x16::splat(byte)).to_bitmask() == 0
+    (block.simd_lt(Simd::splat(b' '))
+        | block.simd_eq(Simd::splat(quote))
+        | block.simd_eq(Simd::splat(b'\\'))).to_bitmask()
 }
 
 /// Whether the byte has a spelling of its own.

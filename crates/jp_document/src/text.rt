@@ -12,6 +12,7 @@ use std::alloc::AllocError;
 /// Appends a text between double quotes, as it stands in the text of a value. Where memory runs out,
 /// the text still begins with what it held, and only a beginning of what was to come stands after
 /// it.
+#[inline(always)]
 pub fn push_text(out: &mut String, text: &str) -> Result<(), AllocError>
     ensures ok { OnOk result (string_bytes out.new ≡ string_bytes out.old ++ string_text text.now) }
     ensures kept { IsPartAppended (string_bytes out.old) (string_text text.now)

@@ -8,6 +8,7 @@ pub mod Kept
 pub mod Leaves
 pub mod Reaching
 pub mod Selects
+pub mod Skipping
 pub mod Spreading
 pub mod Tallies
 pub mod Tallying

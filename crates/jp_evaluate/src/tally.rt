@@ -209,7 +209,7 @@ fn spread<'q, V: Selectable + 'q, M: Matching>(
 {
     work.steps.take_many(turn_count(segments, way.done))?;
     let mut frame = Frame::at(way.done, value);
-    while let Some(offer) = frame_offer(segments, &mut frame) {
+    while let Some(offer) = frame_offer(segments, &mut frame, &mut work.steps)? {
         work.steps.take()?;
         if offer.passes(evaluation, work)? {
             let way = Way {

@@ -2,22 +2,22 @@
 //! a frame for each value on the way from where it begins to where it stands, and no list of nodes.
 
 ghost use Rattle.jp_evaluate.specs.Stopping.{GivenCounts, StopsSpent};
-ghost use Rattle.std.specs.Prelude.{◌≡◌, ◌↔◌, ◌<◌, ◌++◌, ◌∷◌, [], IfNone, IfOk, IfSome, IsTrue};
-ghost use Rattle.std.specs.Prelude.{MatchOption, None, OnOk, OnSome, length, map, min, option_and_then};
-ghost use Rattle.std.specs.Prelude.{option_map, slice_get};
+ghost use Rattle.std.specs.Prelude.{◌≡◌, ◌↔◌, ◌<◌, ◌≤◌, ◌++◌, ◌∷◌, [], IfNone, IfOk, IfSome};
+ghost use Rattle.std.specs.Prelude.{IsTrue, MatchOption, None, OnErr, OnOk, OnSome, drop, length, map, min};
+ghost use Rattle.std.specs.Prelude.{option_and_then, option_map, slice_get};
 ghost use Rattle.jp_document.specs.Location.{entries, step_of};
 ghost use Rattle.jp_document.specs.Node.{root_of};
 ghost use Rattle.jp_tree.specs.Tree.{segments as segment_trees};
 ghost use Rattle.jp_tree.specs.Views.{expr_of, segment_of, selector_of};
 ghost use Rattle.jp_lent.specs.Lending.{step_with};
 ghost use Rattle.jp_select.specs.Selectors.{candidates};
-ghost use Rattle.jp_select.specs.Steps.{Takes};
+ghost use Rattle.jp_select.specs.Steps.{IsSpent, Takes};
 ghost use Rattle.jp_evaluate.specs.Private.Sizes.{expr_size, segments_size, selector_size};
 ghost use Rattle.jp_evaluate.specs.Private.Walk.{choice_at, entered, frame_choices, offered};
 ghost use Rattle.jp_evaluate.specs.Private.Walk.{passes, pending, reached_at, reached_node};
 ghost use Rattle.jp_evaluate.specs.Private.Walk.{segments_left, steps_of, walk_reaches};
 ghost use Rattle.jp_evaluate.specs.Private.Walk.{test_of, turn_of, turn_selector, turns};
-ghost use Rattle.jp_evaluate.specs.Private.Walk.{Keeps, walk_frames, walk_steps};
+ghost use Rattle.jp_evaluate.specs.Private.Walk.{LeadsNowhere, LeadsNowhereAt, IsLeaf, Keeps, Skips, walk_frames, walk_steps};
 
 use crate::evaluating::{Evaluation, Work};
 use crate::evaluation_fault::EvaluationFault;
@@ -25,7 +25,7 @@ use crate::filter::Asking;
 use jp_document::Step;
 use jp_lent::Selectable;
 use jp_match::Matching;
-use jp_select::candidate;
+use jp_select::{Steps, Stopped, candidate};
 use jp_tree::{Expr, Segment, Selector};
 use std::alloc::{AllocError, Global};
 
@@ -138,7 +138,7 @@ impl<'d, V: Selectable + 'd> Walk<'d, V> {
     {
         loop {
             work.steps.take()?;
-            let Some(offer) = self.next_offer(segments) else {
+            let Some(offer) = self.next_offer(segments, &mut work.steps)? else {
                 return Ok(None);
             };
             if offer.passes(evaluation, work)? {
@@ -154,39 +154,44 @@ impl<'d, V: Selectable + 'd> Walk<'d, V> {
         }
     }
 
-    /// The next choice, None at the end.
-    fn next_offer<'q>(&mut self, segments: &'q [Segment]) -> Option<Offer<'q, 'd, V>>
-        ensures gives { let left = pending V.meaning segments.now in MatchOption result
-            ((left self.old ≡ []) × (left self.new ≡ []))
-            (λ o. left self.old
-            ≡ choice_at (reached_at [] (walk_frames self.new)) (offered V.meaning segments.now o)
-            ∷ left self.new) }
-        ensures begun { self.new.first ≡ None }
-        ensures keeps { Keeps self.old self.new }
-        ensures smaller { IfSome result (λ o. IfSome o.test (λ e. expr_size (expr_of e.now)
-            < segments_size (segment_trees (map segment_of segments.now)))) }
+    /// The next choice that may lead somewhere, None at the end. What it passes over takes steps.
+    fn next_offer<'q>(
+        &mut self,
+        segments: &'q [Segment],
+        steps: &mut Steps,
+    ) -> Result<Option<Offer<'q, 'd, V>>, Stopped>
+        ensures gives { IfOk result (λ next. let left = pending V.meaning segments.now in
+            MatchOption next (Skips LeadsNowhereAt (left self.old) [] × (left self.new ≡ []))
+            (λ o. Skips LeadsNowhereAt (left self.old)
+            (choice_at (reached_at [] (walk_frames self.new)) (offered V.meaning segments.now o)
+            ∷ left self.new))) }
+        ensures begun { OnOk result (self.new.first ≡ None) }
+        ensures keeps { OnOk result (Keeps self.old self.new) }
+        ensures smaller { IfOk result (λ next. IfSome next (λ o. IfSome o.test (λ e. expr_size (expr_of e.now)
+            < segments_size (segment_trees (map segment_of segments.now))))) }
+        ensures takes { Takes steps.old steps.new }
+        ensures stopped { OnErr result (IsSpent steps.new) }
     {
         if let Some(start) = self.first {
             self.first = None;
-            return Some(Offer {
+            return Ok(Some(Offer {
                 reached: Reached {
                     done: 0,
                     step: None,
                     value: start,
                 },
                 test: None,
-            });
+            }));
         }
         loop {
             self.take_up();
             let Some(frame) = &mut self.top else {
-                return None;
+                return Ok(None);
             };
-            if let Some(offer) = frame_offer(segments, frame) {
-                return Some(offer);
+            if let Some(offer) = frame_offer(segments, frame, steps)? {
+                return Ok(Some(offer));
             }
-            self.top = None;
-            self.keep_below();
+            self.leave();
         }
     }
 
@@ -229,6 +234,17 @@ impl<'d, V: Selectable + 'd> Walk<'d, V> {
         if self.top.is_none() {
             self.top = self.below.pop();
         }
+    }
+
+    /// Takes off the frame that stands apart, and takes up the one below it.
+    #[inline(always)]
+    fn leave(&mut self)
+        ensures first { self.new.first ≡ self.old.first }
+        ensures frames { walk_frames self.new ≡ self.old.below.items }
+        ensures kept { self.new.kept ≡ min self.old.kept (length self.old.below.items) }
+    {
+        self.keep_below();
+        self.top = self.below.pop();
     }
 
     /// Goes on from a value.
@@ -337,35 +353,81 @@ impl<'d, V: Selectable + 'd> Frame<'d, V> {
     }
 }
 
-/// The next choice of a frame, None where it has no more.
+/// The next choice of a frame that may lead somewhere, None where it has no more. On the way down it passes
+/// over values with nothing inside them, each of which takes a step.
 #[inline(always)]
 pub(crate) fn frame_offer<'q, 'd, V: Selectable + 'd>(
     segments: &'q [Segment],
     frame: &mut Frame<'d, V>,
-) -> Option<Offer<'q, 'd, V>>
+    steps: &mut Steps,
+) -> Result<Option<Offer<'q, 'd, V>>, Stopped>
     ensures reached { frame.new.reached ≡ frame.old.reached }
-    ensures gives { let left = frame_choices V.meaning segments.now in
-        MatchOption result (left frame.old ≡ [])
-        (λ o. left frame.old ≡ offered V.meaning segments.now o ∷ left frame.new) }
-    ensures smaller { IfSome result (λ o. IfSome o.test (λ e. expr_size (expr_of e.now)
-        < segments_size (segment_trees (map segment_of segments.now)))) }
+    ensures gives { IfOk result (λ next. let left = frame_choices V.meaning segments.now in
+        MatchOption next (Skips LeadsNowhere (left frame.old) [])
+        (λ o. Skips LeadsNowhere (left frame.old) (offered V.meaning segments.now o ∷ left frame.new))) }
+    ensures smaller { IfOk result (λ next. IfSome next (λ o. IfSome o.test (λ e. expr_size (expr_of e.now)
+        < segments_size (segment_trees (map segment_of segments.now))))) }
+    ensures takes { Takes steps.old steps.new }
+    ensures stopped { OnErr result (IsSpent steps.new) }
 {
     while let Some(turn) = turn_at(segments, frame.reached.done, frame.turn) {
+        pass_leaves(turn, frame, steps)?;
         if let Some(choice) = turn.choice(frame.reached.value, frame.next) {
             frame.next += 1;
-            return Some(Offer {
+            return Ok(Some(Offer {
                 reached: Reached {
                     done: turn.done,
                     step: Some(choice.0),
                     value: choice.1,
                 },
                 test: turn.test(),
-            });
+            }));
         }
         frame.turn += 1;
         frame.next = 0;
     }
-    None
+    Ok(None)
+}
+
+/// Goes on behind the children with nothing inside them, where a turn is on the way down. Each takes a step.
+#[inline(always)]
+fn pass_leaves<'q, 'd, V: Selectable + 'd>(
+    turn: Turn<'q>,
+    frame: &mut Frame<'d, V>,
+    steps: &mut Steps,
+) -> Result<(), Stopped>
+    ensures reached { frame.new.reached ≡ frame.old.reached }
+    ensures turn { frame.new.turn ≡ frame.old.turn }
+    ensures leaves { OnOk result (let all = entries (V.meaning frame.old.reached.value) in
+        Skips IsLeaf (drop frame.old.next all) (drop frame.new.next all)) }
+    ensures others { OnOk result (OnSome turn.entry.selector (frame.new.next ≡ frame.old.next)) }
+    ensures takes { Takes steps.old steps.new }
+    ensures stopped { OnErr result (IsSpent steps.new) }
+{
+    if turn.selector.is_some() {
+        return Ok(());
+    }
+    let next = past_leaves(frame.reached.value, frame.next);
+    steps.take_many((next - frame.next) as u64)?;
+    frame.next = next;
+    Ok(())
+}
+
+/// The position, from this one on, of the first of a value's children that has something inside it; behind
+/// the last where none has.
+#[inline(always)]
+fn past_leaves<'d, V: Selectable + 'd>(value: V, from: usize) -> usize
+    ensures onward { from ≤ result }
+    ensures leaves { let all = entries (V.meaning value) in Skips IsLeaf (drop from all) (drop result all) }
+{
+    let mut position = from;
+    'leaves: while let Some(child) = value.child(position) {
+        if child.1.count() > 0 {
+            return position;
+        }
+        position += 1;
+    }
+    position
 }
 
 /// How many turns are tried at a value after `done` segments, the one that is not there included.
@@ -385,6 +447,7 @@ fn turn_at<'q>(segments: &'q [Segment], done: usize, number: usize) -> Option<Tu
         ≡ slice_get (turns (segments_left segments.now done)) number }
     ensures smaller { IfSome result (λ t. IfSome t.selector (λ s. selector_size (selector_of s.now)
         < segments_size (segment_trees (map segment_of segments.now)))) }
+    ensures there { IfSome result (λ t. IfNone t.selector (t.done < length segments.now)) }
     ensures more { OnSome result (number < usize.MAX) }
 {
     let segment = segments.get(done)?;

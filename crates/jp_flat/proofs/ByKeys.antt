@@ -80,7 +80,7 @@ keyed_more t shared members ks k has so = record {
   keys = All-push (HasKey t shared) ks k so.keys has;
 }
 
-equal : (o : Ordering) → is_eq o ≡ true → o ≡ Equal
+pub equal : (o : Ordering) → is_eq o ≡ true → o ≡ Equal
 equal Less is = absurd (cc (is))
 equal Equal is = refl
 equal Greater is = absurd (cc (is))
@@ -180,7 +180,7 @@ same_trans t xs ys zs first then = record {
   named = λ q. then.named q ∙ first.named q;
 }
 
-same_behind : (t : Shown) (front xs ys : List Named) → IsSameByName t xs ys
+pub same_behind : (t : Shown) (front xs ys : List Named) → IsSameByName t xs ys
     → IsSameByName t (front ++ xs) (front ++ ys)
 same_behind t front xs ys same = record {
   moved = IsPermutation-append_right front xs ys same.moved;

@@ -83,7 +83,7 @@ all_of-some f (w ∷ xs) ys (suc k) x is at =
     let h = some_from_both (λ y ys. y ∷ ys) (f w) (all_of f xs) ys is in
     all_of-some f xs h.1 k x h.3 at
 
-piece-length : {A : Type 0} (xs ys : List A) (first count : ℕ) → piece xs first count ≡ Some ys
+pub piece-length : {A : Type 0} (xs ys : List A) (first count : ℕ) → piece xs first count ≡ Some ys
     → length ys ≡ count
 piece-length xs ys first count is =
     let h = cond_some (leb (first + count) (length xs)) (take count (drop first xs)) ys is in

@@ -1,25 +1,23 @@
 -- What the lexer of JSON makes of a text at an offset.
-use Rattle.std.proofs.Common.{◌≡◌, ℕ, suc, ◌+◌, ◌-◌, ◌<◌, ◌≤◌, Bool, true, false, ◌&&◌, ◌||◌, cond}
-use Rattle.std.proofs.Common.{◌==◌, nat_lt}
+use Rattle.std.proofs.Common.{◌≡◌, ℕ, suc, ◌+◌, ◌-◌, ◌<◌, ◌≤◌, Bool, true, false, ◌||◌, cond}
+use Rattle.std.proofs.Common.{◌==◌}
 use Rattle.std.proofs.Common.{List, [], ◌∷◌, ◌++◌, length, take, drop, get_or, Option, Some, None}
-use Rattle.std.proofs.Common.{option_and_then, refl, sym, ap, ◌∙◌, arith}
+use Rattle.std.proofs.Common.{refl, sym, ap, ◌∙◌, arith}
 use Rattle.std.proofs.lemmas.Bool.{not-true, or_parts}
-use Rattle.std.proofs.lemmas.List.{append_assoc, append-nil, drop_more, drop-drop, drop-take}
-use Rattle.std.proofs.lemmas.List.{length-drop, length-take-le, take-append-drop}
-use Rattle.std.specs.Char.{encode_utf8}
+use Rattle.std.proofs.lemmas.List.{append_assoc, append-nil, drop_more, drop-drop}
+use Rattle.std.proofs.lemmas.List.{length-drop, length-take-le, take_rest}
 use Rattle.std.specs.List.{prefix_len}
 use Rattle.json.specs.Lex.{Mode, Lexeme, between, in_escape, in_string, lex, lex_byte}
 use Rattle.json.specs.Lex.{operator, other, space}
 use Rattle.json.specs.Run.{is_plain}
-use Rattle.json.specs.Text.{Within, after_backslash, after_high, after_u, code_unit, content}
-use Rattle.json.specs.Text.{is_high_surrogate, is_low_surrogate, plain, prepend, short_escape}
-use Rattle.json.specs.Text.{surrogate_pair}
+use Rattle.json.specs.Text.{after_backslash, content}
+use Rattle.json.specs.Text.{plain, prepend}
 use Rattle.json.specs.Word.{is_operator, is_space}
-use Rattle.jp_flat.specs.Private.Tokens.{StandsAt}
+use Rattle.jp_flat.specs.Private.Tokens.{IsEndOf, StandsAt}
 
 -- ---- bytes of a text that stand for themselves
 
-prepend-prepend : (a b : List ℕ) (r : Option (List ℕ))
+pub prepend-prepend : (a b : List ℕ) (r : Option (List ℕ))
     → prepend a (prepend b r) ≡ prepend (a ++ b) r
 prepend-prepend a b None = refl
 prepend-prepend a b (Some s) = ap Some (sym (append_assoc a b s))
@@ -120,78 +118,17 @@ part_stands d first end after within =
     length-take-le (end - first) (drop first d) (omega (arith, length-drop first d)) in
     record { within = omega (arith, long); is = ap (λ n. take n (drop first d)) long }
 
--- ---- a text with escapes is read alike whatever stands behind its last quote
+-- ---- a text with escapes stands to the end of the document
 
--- what one gives, the other gives
-abbrev More : Option (List ℕ) → Option (List ℕ) → Type 0
-More r more = (s : List ℕ) → r ≡ Some s → more ≡ Some s
+pub end-stands : (d : List ℕ) (at : ℕ) → at ≤ length d
+    → IsEndOf d (take (length d - at) (drop at d))
+end-stands d at within =
+    let all : take (length d - at) (drop at d) ≡ drop at d = take_rest d at in
+    let long : length d - length (drop at d) ≡ at = omega (arith, length-drop at d) in
+    rw all (ap (λ k. drop k d) long)
 
-more_none : (more : Option (List ℕ)) → More None more
-more_none more s e = absurd (cc e)
-
-more_same : (r : Option (List ℕ)) → More r r
-more_same r s e = e
-
-more_prepend : (bytes : List ℕ) (r more : Option (List ℕ)) → More r more
-    → More (prepend bytes r) (prepend bytes more)
-more_prepend bytes None more f s e = absurd (cc e)
-more_prepend bytes (Some t) more f s e = ap (prepend bytes) (f t refl) ∙ e
-
-more_cond : (b : Bool) (r q r2 q2 : Option (List ℕ)) → More r r2 → More q q2
-    → More (cond b r q) (cond b r2 q2)
-more_cond true r q r2 q2 one two = one
-more_cond false r q r2 q2 one two = two
-
-more_then : {A : Type 0} (o : Option A) (f g : A → Option (List ℕ))
-    → ((a : A) → More (f a) (g a)) → More (option_and_then f o) (option_and_then g o)
-more_then None f g all s e = absurd (cc e)
-more_then (Some a) f g all s e = all a s e
-
-content_more : (w : Within) (xs ys : List ℕ) → More (content w xs) (content w (xs ++ ys))
-unfolding content
-content_more plain [] ys = more_none _
-content_more plain (x ∷ xs) ys =
-    more_cond (x == 34) _ _ _ _ (more_same _)
-    (more_cond (x == 92) _ _ _ _ (content_more after_backslash xs ys)
-    (more_cond (nat_lt x 32) _ _ _ _ (more_same _)
-    (more_prepend (x ∷ []) _ _ (content_more plain xs ys))))
-content_more after_backslash [] ys = more_none _
-content_more after_backslash (x ∷ xs) ys =
-    more_cond (x == 117) _ _ _ _ (content_more after_u xs ys)
-    (more_then (short_escape x) _ _
-    (λ c. more_prepend (c ∷ []) _ _ (content_more plain xs ys)))
-content_more after_u [] ys = more_none _
-content_more after_u (a ∷ []) ys = more_none _
-content_more after_u (a ∷ b ∷ []) ys = more_none _
-content_more after_u (a ∷ b ∷ c ∷ []) ys = more_none _
-content_more after_u (a ∷ b ∷ c ∷ d ∷ xs) ys =
-    more_then (code_unit a b c d) _ _
-    (λ u. more_cond (is_high_surrogate u) _ _ _ _ (content_more (after_high u) xs ys)
-    (more_cond (is_low_surrogate u) _ _ _ _ (more_same _)
-    (more_prepend (encode_utf8 u) _ _ (content_more plain xs ys))))
-content_more (after_high h) [] ys = more_none _
-content_more (after_high h) (s ∷ []) ys = more_none _
-content_more (after_high h) (s ∷ u ∷ []) ys = more_none _
-content_more (after_high h) (s ∷ u ∷ a ∷ []) ys = more_none _
-content_more (after_high h) (s ∷ u ∷ a ∷ b ∷ []) ys = more_none _
-content_more (after_high h) (s ∷ u ∷ a ∷ b ∷ c ∷ []) ys = more_none _
-content_more (after_high h) (s ∷ u ∷ a ∷ b ∷ c ∷ d ∷ xs) ys =
-    more_cond ((s == 92) && (u == 117)) _ _ _ _
-    (more_then (code_unit a b c d) _ _
-    (λ l. more_cond (is_low_surrogate l) _ _ _ _
-    (more_prepend (encode_utf8 (surrogate_pair h l)) _ _ (content_more plain xs ys)) (more_same _)))
-    (more_same _)
-
-pub escaped_text : (d : List ℕ) (from to : ℕ) (x : List ℕ) → 0 < from → from ≤ to → to ≤ length d
-    → content plain (drop 1 (take (to - (from - 1)) (drop (from - 1) d))) ≡ Some x
-    → content plain (drop from d) ≡ Some x
-escaped_text d from to x some after within e =
+pub past-quote : (d : List ℕ) (from : ℕ) → 0 < from
+    → drop 1 (take (length d - (from - 1)) (drop (from - 1) d)) ≡ drop from d
+past-quote d from some =
     let back : from - 1 + 1 ≡ from = omega arith in
-    let more : to - (from - 1) ≡ 1 + (to - from) = omega arith in
-    let cut : drop 1 (take (to - (from - 1)) (drop (from - 1) d)) ≡ take (to - from) (drop from d) =
-    ap (λ k. drop 1 (take k (drop (from - 1) d))) more
-    ∙ drop-take 1 (to - from) (drop (from - 1) d)
-    ∙ ap (take (to - from)) (drop-drop 1 (from - 1) d ∙ ap (λ k. drop k d) back) in
-    ap (content plain) (sym (take-append-drop (to - from) (drop from d)))
-    ∙ content_more plain (take (to - from) (drop from d)) (drop (to - from) (drop from d)) x
-    (ap (content plain) (sym cut) ∙ e)
+    ap (drop 1) (take_rest d (from - 1)) ∙ drop-drop 1 (from - 1) d ∙ ap (λ k. drop k d) back

@@ -21,3 +21,5 @@ pub mod Punctuated
 pub mod Putting
 pub mod Rounds
 pub mod Searched
+pub mod Sunk
+pub mod Undone

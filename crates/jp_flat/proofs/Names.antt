@@ -7,7 +7,6 @@ use Rattle.std.specs.Map.{keys_of}
 use Rattle.std.proofs.lemmas.Bool.{and_from}
 use Rattle.std.proofs.lemmas.Cmp.{nat_list_cmp_total}
 use Rattle.std.proofs.lemmas.List.{map-append}
-use Rattle.std.proofs.lemmas.List.Folds.{list_all-append}
 use Rattle.std.proofs.lemmas.Option.{same_Some}
 use Rattle.jp_document.specs.Value.{Value, names_rise}
 use Rattle.jp_reading.proofs.Conjunctions.{and-left, and-right}
@@ -44,33 +43,42 @@ put_all-rising ms rise = put_rising [] ms rise
 
 -- ---- one name more
 
-last_of : {A : Type 0} (xs : List A) → (xs ≡ []) ⊎ ((ys : List A) × (y : A) × (xs ≡ ys ++ y ∷ []))
+pub last_of : {A : Type 0} (xs : List A) → (xs ≡ []) ⊎ ((ys : List A) × (y : A) × (xs ≡ ys ++ y ∷ []))
 last_of [] = inl refl
 last_of (x ∷ xs) = elim (last_of xs) [
   | inl none ↦ inr ([], x, ap (λ zs. x ∷ zs) none)
   | inr some ↦ inr (x ∷ some.0, some.1, ap (λ zs. x ∷ zs) some.2)
 ]
 
-below_last : (k n : List ℕ) (ks : List (List ℕ)) (last : List ℕ)
-    → list_all (λ m. is_lt (bytes_cmp k m)) (ks ++ last ∷ []) ≡ true
-    → is_lt (bytes_cmp last n) ≡ true → is_lt (bytes_cmp k n) ≡ true
-below_last k n ks last all less =
-    let here : list_all (λ m. is_lt (bytes_cmp k m)) (last ∷ []) ≡ true =
-    and-right _ _ (sym (list_all-append (λ m. is_lt (bytes_cmp k m)) ks (last ∷ [])) ∙ all) in
-    ap is_lt
-    (nat_list_cmp_total.trans k last n (Less-from_is_lt _ (and-left _ _ here))
-    (Less-from_is_lt _ less))
+above-all : (k n : List ℕ) (ks : List (List ℕ)) (last : List ℕ) (ls : List (List ℕ))
+    → list_all (λ m. is_lt (bytes_cmp k m)) (ks ++ last ∷ ls) ≡ true
+    → is_lt (bytes_cmp last n) ≡ true
+    → list_all (λ m. is_lt (bytes_cmp k m)) (ks ++ last ∷ n ∷ ls) ≡ true
+above-all k n [] last ls all less =
+    and_from _ _ (and-left _ _ all)
+    (and_from _ _
+    (ap is_lt
+    (nat_list_cmp_total.trans k last n (Less-from_is_lt _ (and-left _ _ all))
+    (Less-from_is_lt _ less))) (and-right _ _ all))
+above-all k n (m ∷ ks) last ls all less =
+    and_from _ _ (and-left _ _ all) (above-all k n ks last ls (and-right _ _ all) less)
+
+-- names that rise, and one between two neighbours
+pub rise-between : (ks : List (List ℕ)) (last n : List ℕ) (ls : List (List ℕ))
+    → names_rise (ks ++ last ∷ ls) ≡ true → is_lt (bytes_cmp last n) ≡ true
+    → list_all (λ m. is_lt (bytes_cmp n m)) ls ≡ true
+    → names_rise (ks ++ last ∷ n ∷ ls) ≡ true
+rise-between [] last n ls rise less below =
+    and_from _ _ (and_from _ _ less (and-left _ _ rise)) (and_from _ _ below (and-right _ _ rise))
+rise-between (k ∷ ks) last n ls rise less below =
+    and_from _ _ (above-all k n ks last ls (and-left _ _ rise) less)
+    (rise-between ks last n ls (and-right _ _ rise) less below)
 
 -- names that rise, and one above the last of them
 rise_after : (ks : List (List ℕ)) (last n : List ℕ) → names_rise (ks ++ last ∷ []) ≡ true
     → is_lt (bytes_cmp last n) ≡ true → names_rise ((ks ++ last ∷ []) ++ n ∷ []) ≡ true
-rise_after [] last n rise less = and_from _ _ (and_from _ _ less refl) refl
-rise_after (k ∷ ks) last n rise less =
-    and_from _ _
-    (list_all-append (λ m. is_lt (bytes_cmp k m)) (ks ++ last ∷ []) (n ∷ [])
-    ∙ and_from _ _ (and-left _ _ rise)
-    (and_from _ _ (below_last k n ks last (and-left _ _ rise) less) refl))
-    (rise_after ks last n (and-right _ _ rise) less)
+rise_after ks last n rise less =
+    ap names_rise (append_assoc ks (last ∷ []) (n ∷ [])) ∙ rise-between ks last n [] rise less refl
 
 keys-append : (ms ns : List Pair) → keys_of (ms ++ ns) ≡ keys_of ms ++ keys_of ns
 keys-append ms ns = map-append (λ m. m.0) ms ns

@@ -13,7 +13,7 @@ use Rattle.jp_reading.proofs.Conjunctions.{and-left, and-right}
 use Rattle.jp_flat.proofs.Growth.{begins_same, piece_behind, value_kept, within_more}
 
 -- a text of the document or a spare one, in both of them side by side
-in_both : (t : Shown) (p : Span) (x : List ℕ) → text_at t p ≡ Some x
+pub in_both : (t : Shown) (p : Span) (x : List ℕ) → text_at t p ≡ Some x
     → piece (t.source ++ t.spare) p.first p.count ≡ Some x
 in_both t p x = go (leb (p.first + p.count) (length t.source)) (leb (length t.source) p.first) refl refl
   where

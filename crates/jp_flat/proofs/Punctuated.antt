@@ -12,7 +12,6 @@ use Rattle.json.specs.Align.{is_good}
 use Rattle.json.specs.Lex.{Lexeme, Place, after_comma, after_key, after_value, begins_colon}
 use Rattle.json.specs.Lex.{between}
 use Rattle.json.specs.Lex.{colon, comma, fresh, in_string, in_word, lex, may_begin, may_close}
-use Rattle.json.specs.Lex.{tokens}
 use Rattle.json.specs.Lex.{place_token, punctuate, string_token}
 use Rattle.json.specs.Text.{content, plain}
 use Rattle.json.specs.Token as spec
@@ -263,14 +262,13 @@ is_null = record {
       refl refl p m;
 }
 
-pub piece_is : (xs : List ℕ) (first count : ℕ) (s : List ℕ) → Some s ≡ piece xs first count
-    → s ≡ take count (drop first xs)
-piece_is xs first count s e = go (nat_le (first + count) (length xs)) e
-  where
-    go : (b : Bool) → Some s ≡ cond b (Some (take count (drop first xs))) None
-        → s ≡ take count (drop first xs)
-    go true e = ap (λ o. unwrap_or o []) e
-    go false e = absurd (cc e)
+-- a literal of so many characters stands at an offset
+pub literal-there : (d : List ℕ) (at count : ℕ) (name : List ℕ) (token : spec.Token)
+    → take count (drop at d) ≡ name → IsLiteral name token
+    → IsLiteral (take (at + count - at) (drop at d)) token
+literal-there d at count name token there is =
+    let n : at + count - at ≡ count = omega arith in
+    subst (λ s. IsLiteral s token) (sym (ap (λ k. take k (drop at d)) n ∙ there)) is
 
 pub gives_literal : (d name : List ℕ) (token : spec.Token) (from to : Point) (end : ℕ)
     → IsLiteral name token → may_begin (expected_of from.expected) ≡ true → from.at ≤ end
@@ -391,39 +389,3 @@ unfolding lex punctuate
 done_there d p over closes =
     ap (λ r. punctuate (expected_of p.expected) (lex between r)) (drop_all p.at d over)
     ∙ by_close (λ q. punctuate q [] ≡ []) refl refl (expected_of p.expected) closes
-
--- ---- a text alone between its quotes
-
-first_said : List spec.Token → Option (List ℕ)
-first_said [] = None
-first_said (spec.begin_object ∷ ts) = None
-first_said (spec.end_object ∷ ts) = None
-first_said (spec.begin_array ∷ ts) = None
-first_said (spec.end_array ∷ ts) = None
-first_said (spec.key s ∷ ts) = None
-first_said (spec.string s ∷ ts) = Some s
-first_said (spec.number s ∷ ts) = None
-first_said (spec.boolean b ∷ ts) = None
-first_said (spec.null ∷ ts) = None
-first_said (spec.bad ∷ ts) = None
-
-pub quoted_says : (q s : List ℕ) (r : List spec.Token) → 0 < length q → get_or q 0 0 ≡ 34
-    → tokens q ≡ spec.string s ∷ r → content plain (drop 1 q) ≡ Some s
-unfolding punctuate first_said
-quoted_says q s r some quote read =
-    go (content plain (drop 1 q)) (begins_colon (lex in_string (drop 1 q)))
-    (ap (λ ls. first_said (punctuate fresh ls)) (sym (quote_at q 0 some quote))
-    ∙ ap first_said read)
-  where
-    nothing : None ≡ Some s → ⊥
-    nothing e = absurd (cc e)
-
-    ls : List Lexeme
-    ls = lex in_string (drop 1 q)
-
-    go : (o : Option (List ℕ)) (b : Bool)
-        → first_said (place_token fresh (string_token o) b (λ to. punctuate to ls)) ≡ Some s → o ≡ Some s
-    go None true e = absurd (nothing e)
-    go None false e = absurd (nothing e)
-    go (Some x) true e = absurd (nothing e)
-    go (Some x) false e = e

@@ -40,13 +40,17 @@ named_as f t m p is =
 abbrev by_name : Shown → Named → List ℕ × Value
 by_name t m = (name_in t m, null)
 
-keys-named : (f : Item → Option Value) (t : Shown) (xs : List Named) (ps : List Pair)
-    → all_of (member_with f t) xs ≡ Some ps → keys_of (map (by_name t) xs) ≡ keys_of ps
+keys-by_name : (t : Shown) (xs : List Named) → keys_of (map (by_name t) xs) ≡ map (name_in t) xs
+keys-by_name t [] = refl
+keys-by_name t (x ∷ xs) = ap (λ ns. name_in t x ∷ ns) (keys-by_name t xs)
+
+pub keys-named : (f : Item → Option Value) (t : Shown) (xs : List Named) (ps : List Pair)
+    → all_of (member_with f t) xs ≡ Some ps → map (name_in t) xs ≡ keys_of ps
 keys-named f t [] ps is = ap keys_of (same_Some [] ps is)
 keys-named f t (x ∷ xs) ps is =
     let h = some_from_both (λ y ys. y ∷ ys) (member_with f t x) (all_of (member_with f t) xs) ps is
     in
-    ap (λ n. n ∷ keys_of (map (by_name t) xs)) (named_as f t x h.0 h.2)
+    ap (λ n. n ∷ map (name_in t) xs) (named_as f t x h.0 h.2)
     ∙ ap (λ ns. h.0.0 ∷ ns) (keys-named f t xs h.1 h.3) ∙ ap keys_of h.4
 
 name-at : (f : Item → Option Value) (t : Shown) (xs : List Named) (ps : List Pair) (k : ℕ)
@@ -170,7 +174,7 @@ put-missed t m q xs i named miss f ps p is rise here =
     ap (λ o. unwrap_or o []) (sym named) ∙ named_as f t m p here in
     let long : length ps ≡ length xs = length-all_of (member_with f t) xs ps is in
     let sorted : IsStrictlySortedBy bytes_cmp (keys_of (map (by_name t) xs)) =
-    subst (IsStrictlySortedBy bytes_cmp) (sym (keys-named f t xs ps is))
+    subst (IsStrictlySortedBy bytes_cmp) (sym (keys-by_name t xs ∙ keys-named f t xs ps is))
     (sorted_from_rise (keys_of ps) rise) in
     let parts = miss (searchable (by_name t) q xs sorted) in
     let below =

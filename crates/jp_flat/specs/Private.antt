@@ -1,5 +1,6 @@
 -- How a document is read into tables, and looked up there. The contracts of private functions alone
 -- cite it.
+pub mod Escapes
 pub mod Found
 pub mod FromTokens
 pub mod Fronts

@@ -6,9 +6,12 @@ ghost use Rattle.std.specs.Map.{keys_of};
 ghost use Rattle.jp_document.specs.Value.{Value, members_of, names_rise, object};
 ghost use Rattle.jp_flat.specs.Flat.{Grows, all_of, flat_value, member_with, shown};
 ghost use Rattle.jp_flat.specs.Private.Reading.{IsTheListOf, IsObjectOf, put_all, with_items};
+ghost use Rattle.jp_flat.specs.Private.Sorting.{IsSameByName};
+ghost use Rattle.jp_flat.specs.declared.item.Named.{Named};
 
 use crate::item::{Item, Named};
 use crate::moving::move_parts;
+use crate::sinking::sort_few;
 use crate::sorting::{put_each, sort_many};
 use crate::spans::span_of;
 use crate::tables::Tables;
@@ -46,6 +49,7 @@ pub(crate) fn list_from(tables: &Tables<'_>, first: usize) -> Option<Item>
 /// The object of the members from the base on, which move to the tables in the order of their
 /// names, each instead of an earlier one of its name. `rises` says that they came in it; else
 /// they are put in order in `sorted`, which is free before and after.
+#[inline(always)]
 pub(crate) fn close_object(
     tables: &mut Tables<'_>,
     members: &mut Vec<Named>,
@@ -66,6 +70,31 @@ pub(crate) fn close_object(
         let object = object_of(tables, members, base)?;
         return Some(object);
     }
+    if sort_few(tables, members, base) {
+        let object = object_of(tables, members, base)?;
+        return Some(object);
+    }
+    let object = close_many(tables, members, sorted, base)?;
+    Some(object)
+}
+
+/// The object of the members from the base on, or of what they were before they were put in another order,
+/// those of each name in theirs.
+#[inline(never)]
+fn close_many(
+    tables: &mut Tables<'_>,
+    members: &mut Vec<Named>,
+    sorted: &mut Vec<Named>,
+    base: usize,
+) -> Option<Item>
+    requires { base ≤ length members.old.items }
+    ensures object { IfSome result (λ i. (were : List Named) (n : ℕ) (ms : List (List ℕ × Value))
+        → IsSameByName (shown tables.old) were (drop base members.old.items)
+        → all_of (member_with (flat_value n (shown tables.old)) (shown tables.old)) were ≡ Some ms
+        → flat_value (suc n) (shown tables.new) i ≡ Some (object (members_of (put_all [] ms)))) }
+    ensures grows { OnSome result (Grows (shown tables.old) (shown tables.new)) }
+    ensures rest { OnSome result (members.new.items ≡ take base members.old.items) }
+{
     sort_many(tables, members, base)?;
     put_each(tables, tail(members, base), sorted)?;
     members.truncate(base);
@@ -74,6 +103,7 @@ pub(crate) fn close_object(
 }
 
 /// The object of the members from the base on as they stand, which move to the tables.
+#[inline(always)]
 pub(crate) fn object_of(
     tables: &mut Tables<'_>,
     members: &mut Vec<Named>,

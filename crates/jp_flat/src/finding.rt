@@ -17,7 +17,6 @@ use crate::spans::text_span;
 use crate::tables::Tables;
 use crate::token::{Spelled, Token};
 use jp_document::Step;
-use json::Scratch;
 
 /// What is sought in a list or an object: in its part at a step, the value at the rest of a location.
 #[derive(Clone, Copy)]
@@ -84,7 +83,7 @@ fn find_inside(
             Some(found)
         }
         _ => {
-            leaf(tables, &mut pending.room, token)?;
+            leaf(tables, token)?;
             Some(None)
         }
     }
@@ -136,7 +135,7 @@ fn find_member(
 {
     let mut found = None;
     'members: while let Some(name) = reader.next_name()? {
-        let inside = member_sought(tables, &mut pending.room, sought, name)?;
+        let inside = member_sought(tables, sought, name)?;
         let item = find(tables, pending, reader, depth, inside)?;
         found = found_later(found, inside, item);
     }
@@ -168,7 +167,6 @@ fn item_sought<'l>(sought: Option<Sought<'l>>, index: u32) -> Option<&'l [Step<'
 #[inline(always)]
 fn member_sought<'l>(
     tables: &mut Tables<'_>,
-    room: &mut Vec<Scratch>,
     sought: Option<Sought<'l>>,
     name: Spelled<'_>,
 ) -> Option<Option<&'l [Step<'l>]>>
@@ -180,7 +178,7 @@ fn member_sought<'l>(
     match name {
         Spelled::Plain(_, text) => Some(sought_by(sought, text)),
         Spelled::Escaped(_) => {
-            let span = text_span(tables, room, name)?;
+            let span = text_span(tables, name)?;
             let text = bytes_at(tables, span)?;
             Some(sought_by(sought, text))
         }

@@ -1,8 +1,10 @@
 //! Values of documents in tables, wherever they stand.
 
-ghost use Rattle.std.specs.Prelude.{◌≡◌, ◌<◌, true, OnSome, length, option_map, slice_get};
+ghost use Rattle.std.specs.Prelude.{◌≡◌, ◌<◌, true, OnSome, length, option_and_then, option_map, slice_get};
+ghost use Rattle.jp_document.specs.Location.{child_entry, entries, named, nth};
 ghost use Rattle.jp_document.specs.Value.{list_length};
 ghost use Rattle.jp_flat.specs.Flat.{is_flat, meaning, shown};
+ghost use Rattle.jp_flat.specs.declared.item.Item.TheVariants.{Members};
 ghost use Rattle.jp_lent.specs.Lending.{bare, seen_value};
 
 use crate::item::{Item, Span};
@@ -25,8 +27,6 @@ pub struct FlatValue<'d, 't> {
 
 impl<'d, 't> FlatValue<'d, 't> {
     ghost use Rattle.jp_flat.specs.FlatValue.{flat_entry, lent_flat};
-    ghost use Rattle.jp_document.specs.Location.{child_entry, entries, named, nth};
-    ghost use Rattle.jp_flat.specs.declared.item.Item.TheVariants.{Members};
 
     /// The value of an item.
     pub(crate) fn of(tables: &'d Tables<'t>, item: Item) -> FlatValue<'d, 't>
@@ -125,7 +125,10 @@ impl<'d, 't> FlatValue<'d, 't> {
             ≡ child_entry (lent_flat self.entry) (named name.now) }
     {
         match self.item {
-            Item::Members(span) => self.member_in(span, name),
+            Item::Members(span) => match place_of(self.tables, span, name) {
+                Some(place) => self.child(place),
+                None => None,
+            },
             Item::Null
             | Item::Bool(_)
             | Item::Above(_)
@@ -134,26 +137,25 @@ impl<'d, 't> FlatValue<'d, 't> {
             | Item::List(_) => None,
         }
     }
+}
 
-    /// The member of this name, of an object that has these members. It stands apart, so that other values
-    /// are told from objects before anything is called.
-    #[inline(never)]
-    fn member_in(self, span: Span, name: &str) -> Option<(Step<'d>, FlatValue<'d, 't>)>
-        requires { self.item ≡ Members span }
-        ensures { option_map flat_entry result
-            ≡ child_entry (lent_flat self.entry) (named name.now) }
-    {
-        let tables = self.tables;
-        let members = members(tables, span)?;
-        if members.len() <= FEW {
-            return match first_named(tables, members, name) {
-                Some(index) => self.child(index),
-                None => None,
-            };
-        }
-        match members.binary_search_by(|member| name_order(tables, member, name)) {
-            Ok(index) => self.child(index),
-            Err(_) => None,
-        }
+/// Where the member of this name stands among those at a span. It stands apart, so that other values are
+/// told from objects before anything is called.
+#[inline(never)]
+fn place_of(tables: &Tables<'_>, span: Span, name: &str) -> Option<usize>
+    requires { is_flat (shown tables.now) (Members span) ≡ true }
+    ensures { let object = meaning (shown tables.now) (Members span) in
+        option_and_then (λ place. slice_get (entries object) place) result ≡ child_entry object (named name.now) }
+{
+    let members = members(tables, span)?;
+    if members.len() <= FEW {
+        return match first_named(tables, members, name) {
+            Some(place) => Some(place),
+            None => None,
+        };
+    }
+    match members.binary_search_by(|member| name_order(tables, member, name)) {
+        Ok(place) => Some(place),
+        Err(_) => None,
     }
 }

@@ -12,15 +12,10 @@ use crate::number::number;
 use crate::spans::text_span;
 use crate::tables::Tables;
 use crate::token::Token;
-use json::Scratch;
 
 /// Reads the values at the front of a list that have no parts, behind the items of the tables, and
 /// answers the token behind them.
-pub(crate) fn leaves<'a>(
-    tables: &mut Tables<'_>,
-    room: &mut Vec<Scratch>,
-    reader: &mut Cursor<'a>,
-) -> Option<Token<'a>>
+pub(crate) fn leaves<'a>(tables: &mut Tables<'_>, reader: &mut Cursor<'a>) -> Option<Token<'a>>
     requires { reader.old.text ≡ tables.old.text.now }
     ensures reads { IfSome result (λ t. ReadsLeaves reader.old.tokens (token_of t ∷ reader.new.tokens)
         (shown tables.old) (shown tables.new)) }
@@ -33,7 +28,7 @@ pub(crate) fn leaves<'a>(
         match token {
             Token::EndArray | Token::BeginArray | Token::BeginObject => return Some(token),
             _ => {
-                let item = leaf(tables, room, token)?;
+                let item = leaf(tables, token)?;
                 tables.items.push(item).ok()?;
             }
         }
@@ -42,11 +37,7 @@ pub(crate) fn leaves<'a>(
 
 /// The value of a token alone, with its text in the tables.
 #[inline(always)]
-pub(crate) fn leaf(
-    tables: &mut Tables<'_>,
-    room: &mut Vec<Scratch>,
-    token: Token<'_>,
-) -> Option<Item>
+pub(crate) fn leaf(tables: &mut Tables<'_>, token: Token<'_>) -> Option<Item>
     requires { TokenHolds tables.old.text.now token }
     ensures leaf { IfSome result (ReadsLeaf (token_of token.entry) (shown tables.new)) }
     ensures good { OnSome result (is_good (token_of token.entry) ≡ true) }
@@ -61,7 +52,7 @@ pub(crate) fn leaf(
             Some(item)
         }
         Token::Text(text) => {
-            let span = text_span(tables, room, text)?;
+            let span = text_span(tables, text)?;
             Some(Item::Text(span))
         }
         Token::BeginArray

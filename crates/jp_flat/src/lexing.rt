@@ -1,17 +1,16 @@
 //! The token at an offset (RFC 8259 sections 2, 3 and 6): whole numbers are the only ones.
 
-ghost use Rattle.std.specs.Prelude.{◌≡◌, ◌≤◌, ◌<◌, ◌+◌, ◌-◌, ◌==◌, ◌⊎◌, IfSome, Some, drop, length};
+ghost use Rattle.std.specs.Prelude.{◌≡◌, ◌≤◌, ◌<◌, ◌+◌, ◌-◌, ◌==◌, ◌⊎◌, IfSome, OnSome, drop, length};
 ghost use Rattle.std.specs.Prelude.{slice_index, take, true, false};
 ghost use Rattle.json.specs.Lex.{after_value, begins_colon, between, fresh, lex, may_begin};
 ghost use Rattle.json.specs.Lex.{punctuate};
-ghost use Rattle.json.specs.Word.{after_minus, after_number, ends_word};
-ghost use Rattle.jp_flat.specs.Private.Tokens.{GivesToken, IsLiteral, IsSized, TokenHolds};
+ghost use Rattle.json.specs.Word.{after_minus};
+ghost use Rattle.jp_flat.specs.Private.Tokens.{EndsWhole, GivesToken, IsLiteral, TokenHolds};
 ghost use Rattle.jp_flat.specs.Private.Tokens.{token_of, tokens_from, expected_of};
 
 use crate::blanks::{ends_whole, past_blanks};
 use crate::cursor::{Expected, Point, may_begin, may_close};
 use crate::runs::{digits_end, spelled};
-use crate::spans::piece;
 use crate::token::Token;
 
 /// The token at an offset, and where the text goes on behind it.
@@ -43,9 +42,15 @@ pub(crate) fn token_at<'t>(bytes: &'t [u8], from: Point) -> Option<(Token<'t>, P
     match byte {
         b'{' => Some((Token::BeginObject, begun(bytes, from.at + 1))),
         b'[' => Some((Token::BeginArray, begun(bytes, from.at + 1))),
-        b't' => literal(bytes, from, b"true", Token::Bool(true)),
-        b'f' => literal(bytes, from, b"false", Token::Bool(false)),
-        b'n' => literal(bytes, from, b"null", Token::Null),
+        b't' if has_four(bytes, from.at, *b"true") => {
+            literal(bytes, from, from.at + 4, Token::Bool(true))
+        }
+        b'f' if has_four(bytes, from.at + 1, *b"alse") => {
+            literal(bytes, from, from.at + 5, Token::Bool(false))
+        }
+        b'n' if has_four(bytes, from.at, *b"null") => {
+            literal(bytes, from, from.at + 4, Token::Null)
+        }
         _ => number(bytes, from),
     }
 }
@@ -63,7 +68,7 @@ fn begun(bytes: &[u8], at: usize) -> Point
     }
 }
 
-/// Behind a value, with the comma that may follow.
+/// Behind a value, with the comma that may follow. Most often it follows at once.
 #[inline(always)]
 pub(crate) fn passed(bytes: &[u8], end: usize) -> Point
     requires { end ≤ length bytes.now }
@@ -71,16 +76,42 @@ pub(crate) fn passed(bytes: &[u8], end: usize) -> Point
         ≡ punctuate after_value (lex between (drop end bytes.now)) }
     ensures within { result.at ≤ length bytes.now }
 {
+    if end < bytes.len() && bytes[end] == b',' {
+        return behind_comma(bytes, end);
+    }
+    passed_blanks(bytes, end)
+}
+
+/// Behind a value, with the blanks and the comma that may follow.
+#[inline(always)]
+fn passed_blanks(bytes: &[u8], end: usize) -> Point
+    requires { end ≤ length bytes.now }
+    ensures goes { tokens_from bytes.now result
+        ≡ punctuate after_value (lex between (drop end bytes.now)) }
+    ensures within { result.at ≤ length bytes.now }
+{
     let at = past_blanks(bytes, end);
     if at < bytes.len() && bytes[at] == b',' {
-        return Point {
-            at: past_blanks(bytes, at + 1),
-            expected: Expected::AfterComma,
-        };
+        return behind_comma(bytes, at);
     }
     Point {
         at,
         expected: Expected::AfterValue,
+    }
+}
+
+/// Behind the comma at this offset, which follows a value.
+#[inline(always)]
+fn behind_comma(bytes: &[u8], comma: usize) -> Point
+    requires inside { comma < length bytes.now }
+    requires byte { slice_index bytes.now comma ≡ 44 }
+    ensures goes { tokens_from bytes.now result
+        ≡ punctuate after_value (lex between (drop comma bytes.now)) }
+    ensures within { result.at ≤ length bytes.now }
+{
+    Point {
+        at: past_blanks(bytes, comma + 1),
+        expected: Expected::AfterComma,
     }
 }
 
@@ -122,7 +153,7 @@ fn text<'t>(bytes: &'t [u8], from: Point) -> Option<(Token<'t>, Point)>
     Some((Token::Text(spelled), point))
 }
 
-/// Behind a text, which is no name.
+/// Behind a text, which is no name, and behind the blanks that follow it.
 #[inline(always)]
 fn text_passed(bytes: &[u8], at: usize) -> Option<Point>
     requires { at ≤ length bytes.now }
@@ -131,14 +162,21 @@ fn text_passed(bytes: &[u8], at: usize) -> Option<Point>
         ≡ punctuate after_value (lex between (drop at bytes.now))) }
     ensures within { IfSome result (λ p. p.at ≤ length bytes.now) }
 {
+    if at < bytes.len() && bytes[at] == b',' {
+        return Some(behind_comma(bytes, at));
+    }
     if is_last(bytes, at) {
-        Some(passed(bytes, at))
+        Some(Point {
+            at,
+            expected: Expected::AfterValue,
+        })
     } else {
         None
     }
 }
 
-/// Whether a value may end before this offset, and a name may not.
+/// Whether the last value of a list, an object or a document may end before this offset, and a name may
+/// not.
 #[inline(always)]
 fn is_last(bytes: &[u8], at: usize) -> bool
     requires { at ≤ length bytes.now }
@@ -148,32 +186,60 @@ fn is_last(bytes: &[u8], at: usize) -> bool
         return true;
     }
     match bytes[at] {
-        b',' => true,
         b'}' => true,
         b']' => true,
         _ => false,
     }
 }
 
+/// The literal that ends before an offset.
 #[inline(always)]
 fn literal<'t>(
     bytes: &'t [u8],
     from: Point,
-    name: &[u8],
+    end: usize,
     token: Token<'t>,
 ) -> Option<(Token<'t>, Point)>
-    requires inside { from.at ≤ length bytes.now }
+    requires inside { (from.at ≤ end) × (end ≤ length bytes.now) }
     requires begins { may_begin (expected_of from.expected) ≡ true }
-    requires name { IsLiteral name.now (token_of token) }
+    requires name { IsLiteral (take (end - from.at) (drop from.at bytes.now)) (token_of token) }
     requires stands { TokenHolds bytes.now token }
     ensures gives { IfSome result (λ r. GivesToken bytes.now from (token_of r.0) r.1) }
     ensures stands { IfSome result (λ r. TokenHolds bytes.now r.0) }
     ensures within { IfSome result (λ r. r.1.at ≤ length bytes.now) }
 {
-    let part = piece(bytes, from.at, name.len())?;
-    let end = from.at + name.len();
-    if part == name && ends_whole(bytes, end) {
-        Some((token, passed(bytes, end)))
+    let point = word_passed(bytes, end)?;
+    Some((token, point))
+}
+
+/// Whether four bytes stand at an offset.
+#[inline(always)]
+fn has_four(bytes: &[u8], at: usize, four: [u8; 4]) -> bool
+    requires { at ≤ length bytes.now }
+    ensures within { result ≡ true → at + 4 ≤ length bytes.now }
+    ensures four { result ≡ true → take 4 (drop at bytes.now) ≡ four }
+{
+    bytes.len() - at >= 4
+        && bytes[at] == four[0]
+        && bytes[at + 1] == four[1]
+        && bytes[at + 2] == four[2]
+        && bytes[at + 3] == four[3]
+}
+
+/// Behind a word, with the comma that may follow. None where no whole number and no literal ends.
+#[inline(always)]
+fn word_passed(bytes: &[u8], end: usize) -> Option<Point>
+    requires { end ≤ length bytes.now }
+    ensures ends { OnSome result (EndsWhole (drop end bytes.now)) }
+    ensures goes { IfSome result (λ p. tokens_from bytes.now p
+        ≡ punctuate after_value (lex between (drop end bytes.now))) }
+    ensures within { IfSome result (λ p. p.at ≤ length bytes.now) }
+{
+    if end < bytes.len() && bytes[end] == b',' {
+        return Some(behind_comma(bytes, end));
+    }
+    if ends_whole(bytes, end) {
+        Some(passed_blanks(bytes, end))
     } else {
         None
     }
@@ -187,30 +253,13 @@ fn number<'t>(bytes: &'t [u8], from: Point) -> Option<(Token<'t>, Point)>
     ensures stands { IfSome result (λ r. TokenHolds bytes.now r.0) }
     ensures within { IfSome result (λ r. r.1.at ≤ length bytes.now) }
 {
-    let (end, size) = whole_end(bytes, from.at)?;
-    Some((
-        Token::Number(&bytes[from.at..end], size),
-        passed(bytes, end),
-    ))
-}
-
-/// The end of the whole number that begins here, and the number that its digits write.
-#[inline(always)]
-fn whole_end(bytes: &[u8], from: usize) -> Option<(usize, u64)>
-    requires { from < length bytes.now }
-    ensures whole { IfSome result
-        (λ r. after_number (drop from bytes.now) ≡ Some (drop r.0 bytes.now)) }
-    ensures sized { IfSome result (λ r. IsSized (take (r.0 - from) (drop from bytes.now)) r.1) }
-    ensures ends { IfSome result (λ r. ends_word (drop r.0 bytes.now) ≡ true) }
-    ensures within { IfSome result (λ r. (from ≤ r.0) × (r.0 ≤ length bytes.now)) }
-{
-    let first = past_minus(bytes, from);
+    let first = past_minus(bytes, from.at);
     let (end, size) = digits_end(bytes, first);
-    if is_whole(bytes, first, end) && ends_whole(bytes, end) {
-        Some((end, size))
-    } else {
-        None
+    if !is_whole(bytes, first, end) {
+        return None;
     }
+    let point = word_passed(bytes, end)?;
+    Some((Token::Number(&bytes[from.at..end], size), point))
 }
 
 #[inline(always)]

@@ -20,6 +20,7 @@
 mod blanks;
 mod closing;
 mod cursor;
+mod escapes;
 mod finding;
 mod flat;
 mod flat_value;
@@ -36,6 +37,7 @@ mod parts;
 mod reading;
 mod rising;
 mod runs;
+mod sinking;
 mod sorting;
 mod spans;
 mod tables;

@@ -82,6 +82,25 @@ pub(crate) fn bytes_order(tables: &Tables<'_>, member: &Named, name: &[u8]) -> O
     name_at(tables, member).cmp(name)
 }
 
+/// The order of two names. Most differ in their first byte.
+#[inline(always)]
+pub(crate) fn names_order(one: &[u8], other: &[u8]) -> Ordering
+    ensures { result ≡ slice_cmp nat_cmp one.now other.now }
+{
+    if !one.is_empty() && !other.is_empty() && one[0] != other[0] {
+        return one[0].cmp(&other[0]);
+    }
+    whole_names_order(one, other)
+}
+
+/// The order of two names, whatever they begin with. `cmp` takes them by references, so that they go to
+/// memory: here only, where it is called.
+fn whole_names_order(one: &[u8], other: &[u8]) -> Ordering
+    ensures { result ≡ slice_cmp nat_cmp one.now other.now }
+{
+    one.cmp(other)
+}
+
 /// The bytes of a member's name.
 #[inline(always)]
 pub(crate) fn name_at<'d>(tables: &'d Tables<'_>, member: &Named) -> &'d [u8]
@@ -109,15 +128,16 @@ pub(crate) fn first_named(tables: &Tables<'_>, members: &[Named], name: &str) ->
     None
 }
 
-/// Whether a member has this name.
+/// Whether a member has this name. Most differ in their length, or else in their first byte.
 #[inline(always)]
 fn is_named(tables: &Tables<'_>, member: &Named, name: &str) -> bool
     ensures { result ≡ is_named (shown tables.now) name.now member.now }
 {
-    match bytes_at(tables, member.name) {
-        Some(bytes) => is_same(name, bytes),
-        None => is_same(name, b""),
+    let count = member.name.count as usize;
+    if count != name.len() && !name.is_empty() {
+        return false;
     }
+    is_same(name, name_at(tables, member))
 }
 
 /// Whether the text is these bytes.
@@ -125,7 +145,11 @@ fn is_named(tables: &Tables<'_>, member: &Named, name: &str) -> bool
 pub(crate) fn is_same(text: &str, bytes: &[u8]) -> bool
     ensures { result ≡ is_eq (slice_cmp nat_cmp text.now bytes.now) }
 {
-    text.as_bytes() == bytes
+    let text = text.as_bytes();
+    if !text.is_empty() && !bytes.is_empty() && text[0] != bytes[0] {
+        return false;
+    }
+    text == bytes
 }
 
 /// The text at a span.

@@ -16,7 +16,6 @@ use crate::rising::still_rises;
 use crate::spans::text_span;
 use crate::tables::Tables;
 use crate::token::Token;
-use json::Scratch;
 use std::alloc::Global;
 
 /// The parts of the lists and objects that are being read, innermost last.
@@ -27,9 +26,6 @@ pub(crate) struct Pending {
 
     /// Room to sort the members of one object.
     pub(crate) sorted: Vec<Named>,
-
-    /// Room to unescape texts in, taken at the first that has escapes.
-    pub(crate) room: Vec<Scratch>,
 }
 
 impl Pending {
@@ -41,7 +37,6 @@ impl Pending {
             items: Vec::new(alloc),
             members: Vec::new(alloc),
             sorted: Vec::new(alloc),
-            room: Vec::new(alloc),
         }
     }
 
@@ -108,7 +103,7 @@ fn value(
             Some(item)
         }
         _ => {
-            let item = leaf(tables, &mut pending.room, token)?;
+            let item = leaf(tables, token)?;
             Some(item)
         }
     }
@@ -168,7 +163,7 @@ fn items(
     ensures text { reader.new.text ≡ reader.old.text }
 {
     let first = tables.items.len();
-    let token = leaves(tables, &mut pending.room, reader)?;
+    let token = leaves(tables, reader)?;
     if let Token::EndArray = token {
         let list = list_from(tables, first)?;
         return Some(list);
@@ -205,7 +200,7 @@ fn members(
     let mut rises = true;
     'members: while let Some(name) = reader.next_name()? {
         rises = still_rises(rises, tables, &pending.members, base, name);
-        let span = text_span(tables, &mut pending.room, name)?;
+        let span = text_span(tables, name)?;
         let item = value(tables, pending, reader, depth)?;
         pending.members.push(Named { name: span, item }).ok()?;
     }

@@ -9,7 +9,7 @@ ghost use Rattle.jp_flat.specs.Private.Reading.{IsAboveLast};
 ghost use Rattle.jp_flat.specs.Private.Tokens.{said};
 
 use crate::item::Named;
-use crate::parts::bytes_at;
+use crate::parts::{bytes_at, names_order};
 use crate::tables::Tables;
 use crate::token::Spelled;
 use std::cmp::Ordering;
@@ -47,18 +47,7 @@ fn is_below(tables: &Tables<'_>, member: &Named, name: &[u8]) -> bool
         (λ x. is_lt (slice_cmp nat_cmp x name.now) ≡ true) }
 {
     match bytes_at(tables, member.name) {
-        Some(bytes) => is_before(bytes, name),
+        Some(bytes) => matches!(names_order(bytes, name), Ordering::Less),
         None => false,
     }
-}
-
-/// Whether one name is below another. Most differ in their first byte.
-#[inline(always)]
-fn is_before(one: &[u8], other: &[u8]) -> bool
-    ensures { result ≡ true → is_lt (slice_cmp nat_cmp one.now other.now) ≡ true }
-{
-    if !one.is_empty() && !other.is_empty() && one[0] != other[0] {
-        return one[0] < other[0];
-    }
-    matches!(one.cmp(other), Ordering::Less)
 }

@@ -23,7 +23,7 @@ pub(crate) fn spelled<'t>(bytes: &'t [u8], first: usize) -> Option<(Spelled<'t>,
         return Some((Spelled::Plain(first, &bytes[first..end]), end + 1));
     }
     let quote = escaped_end(bytes, first, end)?;
-    Some((Spelled::Escaped(&bytes[first - 1..quote + 1]), quote + 1))
+    Some((Spelled::Escaped(&bytes[first - 1..]), quote + 1))
 }
 
 /// The quote that ends a text with escapes, which is read up to an offset.
@@ -47,7 +47,7 @@ fn escaped_end(bytes: &[u8], first: usize, from: usize) -> Option<usize>
 
 /// The first quote, backslash or control from an offset on, or the end.
 #[inline(always)]
-fn plain_end(bytes: &[u8], from: usize) -> usize
+pub(crate) fn plain_end(bytes: &[u8], from: usize) -> usize
     requires { from ≤ length bytes.now }
     ensures value { result ≡ from + prefix_len is_plain (drop from bytes.now) }
     ensures within { result ≤ length bytes.now }

@@ -1,25 +1,21 @@
 //! Where texts stand.
 
 ghost use Rattle.std.specs.Prelude.{◌≡◌, ◌+◌, ◌≤◌, IfSome, OnSome, Some};
-ghost use Rattle.std.specs.Prelude.{drop, length, option_map, take};
+ghost use Rattle.std.specs.Prelude.{drop, length, option_map, string_bytes, take};
 ghost use Rattle.json.specs.Text.{content, plain};
 ghost use Rattle.jp_flat.specs.Flat.{Grows, piece, shown, text_at};
-ghost use Rattle.jp_flat.specs.Private.Tokens.{HasSpan, StandsAt, IsSpelledIn, said};
+ghost use Rattle.jp_flat.specs.Private.Tokens.{HasSpan, IsEndOf, IsSpelledIn, StandsAt, said};
 
+use crate::escapes::push_content;
 use crate::item::Span;
 use crate::tables::Tables;
 use crate::token::Spelled;
-use json::{Reader, Scratch, Token};
 
 /// The span of a text: where the document spells it, else, with its escapes undone in the room, behind the
 /// spare texts. None where its escapes are none, no memory is left, or more than 2^32 bytes would
 /// stand there.
 #[inline(always)]
-pub(crate) fn text_span(
-    tables: &mut Tables<'_>,
-    room: &mut Vec<Scratch>,
-    text: Spelled<'_>,
-) -> Option<Span>
+pub(crate) fn text_span(tables: &mut Tables<'_>, text: Spelled<'_>) -> Option<Span>
     requires { IsSpelledIn tables.old.text.now text }
     ensures spanned { IfSome result (λ s. HasSpan (shown tables.new) s (said text.entry)) }
     ensures grows { OnSome result (Grows (shown tables.old) (shown tables.new)) }
@@ -27,7 +23,7 @@ pub(crate) fn text_span(
 {
     match text {
         Spelled::Plain(first, bytes) => in_text(tables, first, bytes),
-        Spelled::Escaped(quoted) => unescaped(tables, room, quoted),
+        Spelled::Escaped(quoted) => unescaped(tables, quoted),
     }
 }
 
@@ -41,37 +37,21 @@ fn in_text(tables: &Tables<'_>, first: usize, text: &[u8]) -> Option<Span>
     Some(span)
 }
 
-/// A new spare text, which stands with escapes between these quotes.
+/// A new spare text, which stands with escapes between these quotes, from the first of them on.
 #[inline(never)]
-fn unescaped(tables: &mut Tables<'_>, room: &mut Vec<Scratch>, quoted: &[u8]) -> Option<Span>
+fn unescaped(tables: &mut Tables<'_>, quoted: &[u8]) -> Option<Span>
+    requires { IsEndOf tables.old.text.now quoted.now }
     ensures spanned { IfSome result (λ s. HasSpan (shown tables.new) s
         (content plain (drop 1 quoted.now))) }
     ensures grows { OnSome result (Grows (shown tables.old) (shown tables.new)) }
     ensures items { OnSome result (tables.new.items.items ≡ tables.old.items.items) }
 {
-    if quoted.is_empty() || quoted[0] != b'"' {
-        return None;
-    }
-    let text = simdutf8::basic::from_utf8(quoted).ok()?;
-    if room.is_empty() {
-        take_room(room)?;
-    }
-    let scratch = room.first_mut()?;
-    let mut reader = Reader::new(text, scratch).ok()?;
-    let token = reader.next()?;
-    match token {
-        Token::String(text) => {
-            let span = spared(tables, text)?;
-            Some(span)
-        }
-        _ => None,
-    }
-}
-
-/// Takes room to unescape texts in.
-#[inline(never)]
-fn take_room(room: &mut Vec<Scratch>) -> Option<()> {
-    room.push(Scratch::new(*room.allocator())).ok()
+    let quote = tables.text.len().checked_sub(quoted.len())?;
+    let text = tables.text.get(quote + 1..)?;
+    let old = tables.spare.len();
+    push_content(&mut tables.spare, text)?;
+    let span = spare_from(tables, old)?;
+    Some(span)
 }
 
 /// A new spare text.
@@ -80,9 +60,21 @@ pub(crate) fn spared(tables: &mut Tables<'_>, text: &str) -> Option<Span>
     ensures grows { OnSome result (Grows (shown tables.old) (shown tables.new)) }
     ensures items { OnSome result (tables.new.items.items ≡ tables.old.items.items) }
 {
-    let first = tables.text.len().checked_add(tables.spare.len())?;
+    let old = tables.spare.len();
     tables.spare.push_str(text).ok()?;
-    span_of(first, text.len())
+    let span = spare_from(tables, old)?;
+    Some(span)
+}
+
+/// The span of the spare texts from an offset on.
+#[inline(always)]
+fn spare_from(tables: &Tables<'_>, from: usize) -> Option<Span>
+    requires { from ≤ length (string_bytes tables.now.spare) }
+    ensures { IfSome result (λ s. text_at (shown tables.now) s
+        ≡ Some (drop from (string_bytes tables.now.spare))) }
+{
+    let first = tables.text.len().checked_add(from)?;
+    span_of(first, tables.spare.len() - from)
 }
 
 /// So many entries from the first on, None where they are not all there.

@@ -1,7 +1,7 @@
 //! What a text is read as, one after another (RFC 8259 section 2).
 
 /// A text between quotes as a document spells it: by itself, from its first byte on, or with
-/// escapes, and then with its quotes.
+/// escapes, and then with the whole document from its first quote on.
 #[derive(Clone, Copy, Drop)]
 pub(crate) enum Spelled<'t> {
     Plain(usize, &'t [u8]),

@@ -35,6 +35,7 @@ impl CharClass {
 }
 
 impl ClassElement {
+    #[inline(always)]
     #[tactic(auto, unfolding(crate::specs::Class::element_holds))]
     fn holds(&self, c: char) -> bool
         ensures { result ≡ element_holds c self.now }
@@ -46,6 +47,7 @@ impl ClassElement {
     }
 }
 
+#[inline(always)]
 fn is_any_holding(elements: &[ClassElement], c: char) -> bool
     ensures { result ≡ list_any (element_holds c) elements.now }
 {

@@ -16,11 +16,11 @@ abbrev mutual
 
   pub weight_items : Items → ℕ
   weight_items no_items = 0
-  weight_items (item v vs) = suc (suc (weight v + weight_items vs))
+  weight_items (item v vs) = suc (suc (suc (weight v + weight_items vs)))
 
   pub weight_members : Members → ℕ
   weight_members no_members = 0
-  weight_members (member n v ms) = suc (suc (weight v + weight_members ms))
+  weight_members (member n v ms) = suc (suc (suc (weight v + weight_members ms)))
 
 abbrev pub weight_of : Option Value → ℕ
 weight_of None = 0
@@ -32,7 +32,7 @@ weight_inside (list vs) = weight_items vs
 weight_inside (object ms) = weight_members ms
 weight_inside _ = 0
 
-inside_less : (v : Value) → weight_inside v < weight v
+pub inside_less : (v : Value) → weight_inside v < weight v
 inside_less null = omega arith
 inside_less (boolean b) = omega arith
 inside_less (whole z) = omega arith
@@ -49,25 +49,25 @@ side_less a v t is at =
     omega arith
 
 item_less : (k : ℕ) (vs : Items) (i : ℕ) (e : Step × Value)
-    → slice_get (items_from k vs) i ≡ Some e → suc (weight e.1) < weight_items vs
+    → slice_get (items_from k vs) i ≡ Some e → suc (suc (weight e.1)) < weight_items vs
 item_less k no_items i e at = absurd (cc)
 item_less k (item v vs) zero e at =
     let same : (nth k, v) ≡ e = same_Some _ _ at in
-    subst (λ (f : Step × Value). suc (weight f.1) < suc (suc (weight v + weight_items vs))) same
+    subst (λ (f : Step × Value). suc (suc (weight f.1)) < suc (suc (suc (weight v + weight_items vs)))) same
     (omega arith)
 item_less k (item v vs) (suc i) e at = let less = item_less (suc k) vs i e at in omega arith
 
 member_less : (ms : Members) (i : ℕ) (e : Step × Value)
-    → slice_get (members_by_name ms) i ≡ Some e → suc (weight e.1) < weight_members ms
+    → slice_get (members_by_name ms) i ≡ Some e → suc (suc (weight e.1)) < weight_members ms
 member_less no_members i e at = absurd (cc)
 member_less (member n v ms) zero e at =
     let same : (named n, v) ≡ e = same_Some _ _ at in
-    subst (λ (f : Step × Value). suc (weight f.1) < suc (suc (weight v + weight_members ms))) same
+    subst (λ (f : Step × Value). suc (suc (weight f.1)) < suc (suc (suc (weight v + weight_members ms)))) same
     (omega arith)
 member_less (member n v ms) (suc i) e at = let less = member_less ms i e at in omega arith
 
 part_less : (v : Value) (i : ℕ) (e : Step × Value) → slice_get (entries v) i ≡ Some e
-    → suc (weight e.1) < weight_inside v
+    → suc (suc (weight e.1)) < weight_inside v
 part_less null i e at = absurd (cc)
 part_less (boolean b) i e at = absurd (cc)
 part_less (whole z) i e at = absurd (cc)
@@ -75,7 +75,11 @@ part_less (text s) i e at = absurd (cc)
 part_less (list vs) i e at = item_less 0 vs i e at
 part_less (object ms) i e at = member_less ms i e at
 
--- a part weighs less than all parts
+-- a part weighs less than all parts, by more than two
+pub part-far-within : (v : Value) (i t : ℕ) (e : Step × Value) → Some e ≡ slice_get (entries v) i
+    → weight_inside v ≡ t → suc (suc (weight e.1)) < t
+part-far-within v i t e at is = let less = part_less v i e (sym at) in omega arith
+
 pub part_within : (v : Value) (i t : ℕ) (e : Step × Value) → Some e ≡ slice_get (entries v) i
     → weight_inside v ≡ t → suc (weight e.1) < t
 part_within v i t e at is = let less = part_less v i e (sym at) in omega arith

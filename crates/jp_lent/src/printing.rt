@@ -1,13 +1,13 @@
 //! The compact text of values: JSON (RFC 8259) without blank space.
 
-ghost use Rattle.std.specs.Prelude.{◌≡◌, ◌==◌, ◌++◌, ◌∷◌, [], if◌then◌else◌, IfOk, OnOk};
+ghost use Rattle.std.specs.Prelude.{◌≡◌, ◌==◌, ◌<◌, ◌++◌, ◌∷◌, [], if◌then◌else◌, IfOk, OnOk};
 ghost use Rattle.std.specs.Prelude.{string_bytes};
 ghost use Rattle.std.specs.List.{join_with_byte};
 ghost use Rattle.jp_document.specs.Appending.{IsPartAppended};
 ghost use Rattle.jp_document.specs.Location.{entries, step_of};
 ghost use Rattle.jp_document.specs.Text.{text_of};
 ghost use Rattle.jp_lent.specs.Lending.{step_with};
-ghost use Rattle.jp_lent.specs.Private.Printing.{name_text, part_text, part_texts};
+ghost use Rattle.jp_lent.specs.Private.Printing.{enclosed, name_text, part_text, part_texts};
 
 use crate::lent::Lent;
 use crate::seen::Seen;
@@ -26,6 +26,7 @@ pub fn value_text<'d, V: Lent + 'd>(alloc: Global, value: V) -> Result<String, A
 /// Appends the compact text of a value. Where memory runs out, the text still begins with what it
 /// held, and only a beginning of the value's text stands after it.
 #[cycle(printing)]
+#[inline(always)]
 pub fn push_value<'d, V: Lent + 'd>(out: &mut String, value: V) -> Result<(), AllocError>
     ensures ok { OnOk result
         (string_bytes out.new ≡ string_bytes out.old ++ text_of (V.meaning value)) }
@@ -38,21 +39,45 @@ pub fn push_value<'d, V: Lent + 'd>(out: &mut String, value: V) -> Result<(), Al
         Seen::Bool(false) => out.push_str("false"),
         Seen::Whole(number) => push_integer(out, number),
         Seen::Text(text) => push_text(out, text),
-        Seen::List => {
-            out.push('[')?;
-            push_parts(out, value)?;
-            out.push(']')
-        }
-        Seen::Members => {
-            out.push('{')?;
-            push_parts(out, value)?;
-            out.push('}')
-        }
+        Seen::List => push_enclosed(out, b'[', value, b']'),
+        Seen::Members => push_enclosed(out, b'{', value, b'}'),
     }
+}
+
+/// Appends the texts of the parts between two marks. It stands apart, so that values without parts are
+/// written where they are met.
+#[cycle(printing)]
+#[inline(never)]
+fn push_enclosed<'d, V: Lent + 'd>(
+    out: &mut String,
+    opening: u8,
+    value: V,
+    closing: u8,
+) -> Result<(), AllocError>
+    requires opening { opening < 128 }
+    requires closing { closing < 128 }
+    ensures ok { OnOk result (string_bytes out.new
+        ≡ string_bytes out.old ++ enclosed opening closing (V.meaning value)) }
+    ensures kept { IsPartAppended (string_bytes out.old) (enclosed opening closing (V.meaning value))
+        (string_bytes out.new) }
+{
+    push_mark(out, opening)?;
+    push_parts(out, value)?;
+    push_mark(out, closing)
+}
+
+#[inline(always)]
+fn push_mark(out: &mut String, mark: u8) -> Result<(), AllocError>
+    requires { mark < 128 }
+    ensures ok { OnOk result (string_bytes out.new ≡ string_bytes out.old ++ mark ∷ []) }
+    ensures kept { IsPartAppended (string_bytes out.old) (mark ∷ []) (string_bytes out.new) }
+{
+    out.push(char::from(mark))
 }
 
 /// Appends the texts of the parts.
 #[cycle(printing)]
+#[inline(always)]
 fn push_parts<'d, V: Lent + 'd>(out: &mut String, value: V) -> Result<(), AllocError>
     ensures ok { OnOk result (string_bytes out.new ≡ string_bytes out.old
         ++ join_with_byte 44 (part_texts (entries (V.meaning value)))) }
@@ -70,6 +95,7 @@ fn push_parts<'d, V: Lent + 'd>(out: &mut String, value: V) -> Result<(), AllocE
 
 /// Appends a value, of a member behind its name and a colon.
 #[cycle(printing)]
+#[inline(always)]
 fn push_part<'d, V: Lent + 'd>(out: &mut String, part: (Step<'d>, V)) -> Result<(), AllocError>
     ensures ok { OnOk result (string_bytes out.new
         ≡ string_bytes out.old ++ part_text (step_with V.meaning part.entry)) }

@@ -10,6 +10,7 @@ use std::alloc::AllocError;
 
 /// Appends a value raw: a string (RFC 8259 section 7) by its characters, without quotes and escapes, any
 /// other value by its compact text. The only error is that memory ran out; then nothing is said of the text.
+#[inline(always)]
 pub fn push_raw<'d, V: Lent + 'd>(out: &mut String, value: V) -> Result<(), AllocError>
     ensures { OnOk result (string_bytes out.new
         ≡ string_bytes out.old ++ raw_text (V.meaning value)) }
@@ -21,6 +22,7 @@ pub fn push_raw<'d, V: Lent + 'd>(out: &mut String, value: V) -> Result<(), Allo
 }
 
 /// The characters of a string.
+#[inline(always)]
 fn characters_of<'d, V: Lent + 'd>(value: V) -> Option<&'d str>
     ensures { option_map (λ s. s.now) result ≡ characters_of (V.meaning value) }
 {

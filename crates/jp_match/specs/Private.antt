@@ -9,6 +9,7 @@ pub mod EmptyWord
 pub mod Marks
 pub mod Offset
 pub mod OneClass
+pub mod OneWidth
 pub mod OnlyWords
 pub mod Plain
 pub mod Rows

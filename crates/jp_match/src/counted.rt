@@ -1,22 +1,29 @@
 //! Patterns whose positions are counted once for many texts.
 
-ghost use Rattle.std.specs.Prelude.{◌≡◌, ◌^◌, ℕ, Bool, List, IfSome, Some, min};
+ghost use Rattle.std.specs.Prelude.{◌≡◌, ◌^◌, ℕ, Bool, List, IfSome, IsTrue, Some, min};
 ghost use Rattle.jp_iregexp.specs.Tree.{tree};
 ghost use Rattle.jp_iregexp.specs.Language.{Language};
 ghost use Rattle.jp_iregexp.specs.Positions.{positions_of};
 ghost use Rattle.jp_match.specs.Private.Plain.{unrolled};
 ghost use Rattle.jp_match.specs.Private.Beginning.{RulesOut};
+ghost use Rattle.jp_match.specs.Private.OneWidth.{HasOneWidth, has_width};
 ghost use Rattle.jp_match.specs.Private.OnlyWords.{HasOnlyWords};
 ghost use Rattle.jp_match.specs.Private.Sweeps.{rounds_of};
 
 use crate::counts::{Counts, counts_of};
 use crate::first_chars::FirstChars;
+use crate::one_width::width_of;
 use crate::only_words::OnlyWords;
+use crate::scan::MOST_POSITIONS;
 use jp_iregexp::Pattern;
 
 /// A pattern of more positions has no table of first characters, since each position may have a class
 /// that stands first.
 const MOST_TABLED: u64 = 256;
+
+/// A word of a pattern of more positions is not looked for at each character: many might begin one
+/// that only fails late.
+const MOST_SOUGHT: u64 = 64;
 
 /// A pattern with its counts.
 #[derive(Clone, Copy)]
@@ -40,19 +47,21 @@ impl<'p> Counted<'p> {
 /// A pattern whose positions were counted when it was made, so that a matcher need not count them
 /// for each text. Where it has few words and no others, as `timeout|refused` has two, it keeps them,
 /// so that a matcher looks for them as they are; of other patterns it keeps which characters no word
-/// begins with.
+/// begins with, and whether all words have one number of characters.
 #[derive(Drop)]
 pub struct CountedPattern {
     pub(crate) pattern: Pattern,
     counts: Counts,
     only_words: Option<OnlyWords>,
     first_chars: Option<FirstChars>,
+    width: Option<u64>,
     ghost positions: { counts.positions ≡ min (positions_of (tree pattern)) 4097 },
     ghost rounds: { counts.rounds ≡ min (rounds_of (unrolled (tree pattern))) (2 ^ 31) },
     ghost spelled: { (words : List (List ℕ)) → only_words ≡ Some words → HasOnlyWords (tree pattern)
         words },
     ghost begins: { (table : List Bool) → first_chars ≡ Some table → RulesOut table (Language (tree
         pattern)) },
+    ghost wide: { (each : ℕ) → width ≡ Some each → IsTrue (has_width (tree pattern) each) },
 }
 
 impl CountedPattern {
@@ -67,11 +76,16 @@ impl CountedPattern {
             None if counts.positions <= MOST_TABLED => Some(FirstChars::of(&pattern)),
             _ => None,
         };
+        let width = match counts.positions <= MOST_POSITIONS {
+            true => width_of(&pattern),
+            false => None,
+        };
         CountedPattern {
             pattern,
             counts,
             only_words,
             first_chars,
+            width,
         }
     }
 
@@ -104,5 +118,21 @@ impl CountedPattern {
         ensures { IfSome result (λ first. RulesOut first.now (Language (tree self.now.pattern))) }
     {
         self.first_chars.as_ref()
+    }
+
+    /// Whether each word of the pattern has the same number of characters. Where the answer is false
+    /// they may have, too.
+    pub(crate) fn has_one_width(&self) -> bool
+        ensures { IsTrue result → HasOneWidth (tree self.now.pattern) }
+    {
+        self.width.is_some()
+    }
+
+    /// Whether each word has the same number of characters, and the pattern has so few positions that
+    /// a word is looked for at each character.
+    pub(crate) fn is_sought(&self) -> bool
+        ensures { IsTrue result → HasOneWidth (tree self.now.pattern) }
+    {
+        self.counts.positions <= MOST_SOUGHT && self.has_one_width()
     }
 }

@@ -28,6 +28,7 @@ mod marks;
 mod matching;
 mod offsets;
 mod one_class;
+mod one_width;
 mod only_words;
 mod passing;
 mod relations;
@@ -37,6 +38,7 @@ mod search;
 mod stepping;
 mod sweep;
 mod whole;
+mod word;
 
 pub use class_tests::Tests;
 pub use counted::CountedPattern;

@@ -20,13 +20,15 @@ use crate::first_chars::FirstChars;
 use crate::images::Images;
 use crate::matching::Matching;
 use crate::scan::Scan;
+use crate::word::{has_word, is_word};
 use jp_iregexp::Pattern;
 use std::alloc::{AllocError, Global};
 
 /// The matcher of positions. It steps one [`Scan`] over the text, so a pattern of at most 4,096
 /// positions takes at most one class test for each of them and each character. A pattern of more
 /// positions is first cut down to the text's length, and where there still are more it is handed to
-/// [`Images`].
+/// [`Images`]. A pattern that was counted before needs no scan where it has few words, or words of
+/// one number of characters.
 #[derive(Clone, Copy, Debug, Default)]
 pub struct Marks;
 
@@ -60,6 +62,7 @@ impl Matching for Marks {
     ) -> Result<bool, AllocError> {
         match pattern.only_words() {
             Some(words) => Ok(words.contain(text)),
+            None if pattern.has_one_width() => Ok(is_word(pattern.pattern(), text, tests)),
             None => whole_of(alloc, pattern.counted(), text, tests),
         }
     }
@@ -73,6 +76,10 @@ impl Matching for Marks {
     ) -> Result<bool, AllocError> {
         match pattern.only_words() {
             Some(words) => Ok(words.occur_in(text)),
+            None if pattern.is_sought() => {
+                let first_chars = pattern.first_chars();
+                Ok(has_word(pattern.pattern(), first_chars, text, tests))
+            }
             None => part_of(alloc, pattern.counted(), pattern.first_chars(), text, tests),
         }
     }

@@ -28,7 +28,13 @@ pub fn candidate<'d, V: Selectable + 'd>(
     match selector {
         Selector::Wildcard | Selector::Filter(_) => value.child(position),
         Selector::Slice(slice) => slice_item(value, *slice, position),
-        Selector::Name(_) | Selector::Index(_) => {
+        Selector::Name(_) => {
+            if position > 0 {
+                return None;
+            }
+            single(selector, value)
+        }
+        Selector::Index(_) => {
             if position > 0 {
                 return None;
             }

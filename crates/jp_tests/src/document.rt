@@ -1,3 +1,4 @@
-//! Rows of normalized paths.
+//! Rows of normalized paths, and of texts between quotes.
 
 mod paths;
+mod spellings;

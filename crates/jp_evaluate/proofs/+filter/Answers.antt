@@ -1,4 +1,5 @@
-use Rattle.std.proofs.Common.{◌≡◌, ◌∷◌, IfOk, false, ap, arith, length, refl, rules, subst, sym, ◌∙◌}
+use Rattle.std.proofs.Common.{◌≡◌, ◌∷◌, [], IfOk, false, ap, arith, length, refl, rules, subst, sym, ◌∙◌}
+use Rattle.std.specs.List.{flat_map}
 use Rattle.jp_document.specs.Location.{entries}
 use Rattle.jp_document.specs.Node.{root_of}
 use Rattle.jp_tree.specs.declared.tree.Expr.{the_lemmas}
@@ -9,12 +10,13 @@ use Rattle.jp_evaluate.specs.Functions.{only_value}
 use Rattle.jp_evaluate.specs.Nodelist.{holds, nodelist_at}
 use Rattle.jp_evaluate.specs.Private.Calls.{counted}
 use Rattle.jp_evaluate.specs.Private.Selecting.{nodes_query}
-use Rattle.jp_evaluate.specs.Private.Walk.{reached_node, reaches, segments_left}
+use Rattle.jp_evaluate.specs.Private.Walk.{choice_reaches, pending, reached_node, reaches, segments_left}
 use Rattle.jp_evaluate.proofs.Parts.Counted.{no_nodes-value, test-logical, test-nodes}
 use Rattle.jp_evaluate.proofs.Parts.Counted.{value_of_nodes-answer}
 use Rattle.jp_evaluate.proofs.Walks.Kept.{keeps_then}
 use Rattle.jp_evaluate.proofs.Walks.Selects.{begun_to_come}
 use Rattle.jp_evaluate.proofs.Walks.Advances.{ends_at, ends_in_leaf, goes_on, goes_on_less, offer_less, passed_over}
+use Rattle.jp_evaluate.proofs.Walks.Advances.{skipped-reach}
 use Rattle.jp_evaluate.proofs.Walks.Spreading.{spread-begun, spread-failed, spread-fewer, spread-passed}
 use Rattle.jp_evaluate.proofs.Walks.Spreading.{spread-sums}
 use Rattle.jp_evaluate.proofs.Walks.Tallies.{leaf-sum}
@@ -149,13 +151,13 @@ walk::Walk::advance-loop-self-preserved g t c =
     let d = g.V.Lent.meaning c.args.evaluation.now.root in
     let o = c.in-Some.offer in
     let same =
-    passed_over g.V.Lent.meaning all d c.loop-self.self c.next_offer.new.self o c.in-Some.ensures.gives
+    passed_over g.V.Lent.meaning all d c.loop-self.self c.next_offer.new.self o (rw c.in-Some.is at c.in_ok-offer.ensures.gives)
     (sym c.in_ok-passes.ensures.gives ∙ c.if-branch.false) ∙ c.loop-self.invariant.same in
     record {
       same = same;
       keeps = keeps_then c.args.self.now c.loop-self.self c.next_offer.new.self c.loop-self.invariant.keeps
-          c.next_offer.ensures.keeps;
-      taken = takes_then c.loop-self.invariant.taken (takes_then c.take.ensures.takes c.passes.ensures.takes);
+          c.in_ok-offer.ensures.keeps;
+      taken = takes_then c.loop-self.invariant.taken (takes_then c.take.ensures.takes (takes_then c.next_offer.ensures.takes c.passes.ensures.takes));
     }
 
 pub walk::Walk::advance-returns-then-offer-segments-clause-gives :
@@ -165,45 +167,46 @@ walk::Walk::advance-returns-then-offer-segments-clause-gives g t c =
     let d = g.V.Lent.meaning c.args.evaluation.now.root in
     let o = c.in-Some.offer in
     sym c.loop-self.invariant.same
-    ∙ ends_at g.V.Lent.meaning all d c.loop-self.self c.next_offer.new.self o c.in-Some.ensures.gives
+    ∙ ends_at g.V.Lent.meaning all d c.loop-self.self c.next_offer.new.self o (rw c.in-Some.is at c.in_ok-offer.ensures.gives)
     (sym c.in_ok-passes.ensures.gives ∙ c.if-branch.true) c.if-offer-segments.true
 
 pub walk::Walk::advance-loop-self-smaller : goal.walk::Walk::advance-loop-self-smaller
 walk::Walk::advance-loop-self-smaller g t c =
     offer_less g.V.Lent.meaning c.args.segments.now c.loop-self.self c.next_offer.new.self c.in-Some.offer
-    c.in-Some.ensures.gives
+    (rw c.in-Some.is at c.in_ok-offer.ensures.gives)
 
 pub walk::Walk::advance-loop-self-smaller-else-not-is_leaf :
     goal.walk::Walk::advance-loop-self-smaller-else-not-is_leaf
 walk::Walk::advance-loop-self-smaller-else-not-is_leaf g t c =
     offer_less g.V.Lent.meaning c.args.segments.now c.loop-self.self c.next_offer.new.self c.in-Some.offer
-    c.in-Some.ensures.gives
+    (rw c.in-Some.is at c.in_ok-offer.ensures.gives)
 
-pub walk::Walk::advance-loop-self-smaller-in-Continue-branch-4 :
-    goal.walk::Walk::advance-loop-self-smaller-in-Continue-branch-4
-walk::Walk::advance-loop-self-smaller-in-Continue-branch-4 g t c =
+pub walk::Walk::advance-loop-self-smaller-in-Continue-branch-6 :
+    goal.walk::Walk::advance-loop-self-smaller-in-Continue-branch-6
+walk::Walk::advance-loop-self-smaller-in-Continue-branch-6 g t c =
     goes_on_less g.V.Lent.meaning c.args.segments.now c.loop-self.self c.next_offer.new.self c.enter.new.self
-    c.in-Some.offer c.in-Some.ensures.gives c.in-Some.ensures.begun
+    c.in-Some.offer (rw c.in-Some.is at c.in_ok-offer.ensures.gives) c.in_ok-offer.ensures.begun
     c.if-offer-segments.false c.enter.ensures.first c.in_ok-enter.ensures.frames
 
-pub walk::Walk::advance-loop-self-preserved-in-Continue-branch-4 :
-    goal.walk::Walk::advance-loop-self-preserved-in-Continue-branch-4
-walk::Walk::advance-loop-self-preserved-in-Continue-branch-4 g t c =
+pub walk::Walk::advance-loop-self-preserved-in-Continue-branch-6 :
+    goal.walk::Walk::advance-loop-self-preserved-in-Continue-branch-6
+walk::Walk::advance-loop-self-preserved-in-Continue-branch-6 g t c =
     let all = c.args.segments.now in
     let d = g.V.Lent.meaning c.args.evaluation.now.root in
     let o = c.in-Some.offer in
     let same =
-    goes_on g.V.Lent.meaning all d c.loop-self.self c.next_offer.new.self c.enter.new.self o c.in-Some.ensures.gives
-    c.in-Some.ensures.begun (sym c.in_ok-passes.ensures.gives ∙ c.if-branch.true)
+    goes_on g.V.Lent.meaning all d c.loop-self.self c.next_offer.new.self c.enter.new.self o (rw c.in-Some.is at c.in_ok-offer.ensures.gives)
+    c.in_ok-offer.ensures.begun (sym c.in_ok-passes.ensures.gives ∙ c.if-branch.true)
     c.if-offer-segments.false c.enter.ensures.first c.in_ok-enter.ensures.frames
     ∙ c.loop-self.invariant.same in
     record {
       same = same;
       keeps = keeps_then c.args.self.now c.next_offer.new.self c.enter.new.self
           (keeps_then c.args.self.now c.loop-self.self c.next_offer.new.self c.loop-self.invariant.keeps
-          c.next_offer.ensures.keeps) c.in_ok-enter.ensures.keeps;
+          c.in_ok-offer.ensures.keeps) c.in_ok-enter.ensures.keeps;
       taken = takes_then c.loop-self.invariant.taken
-          (takes_then c.take.ensures.takes (takes_then c.passes.ensures.takes c.take_many.ensures.takes));
+          (takes_then c.take.ensures.takes
+          (takes_then c.next_offer.ensures.takes (takes_then c.passes.ensures.takes c.take_many.ensures.takes)));
     }
 
 pub walk::Walk::advance-loop-self-preserved-else-not-is_leaf :
@@ -214,27 +217,38 @@ walk::Walk::advance-loop-self-preserved-else-not-is_leaf g t c =
     let o = c.in-Some.offer in
     let leaf : length (entries (g.V.Lent.meaning o.reached.value)) ≡ 0 = search rules in
     let same =
-    ends_in_leaf g.V.Lent.meaning all d c.loop-self.self c.next_offer.new.self o c.in-Some.ensures.gives
+    ends_in_leaf g.V.Lent.meaning all d c.loop-self.self c.next_offer.new.self o (rw c.in-Some.is at c.in_ok-offer.ensures.gives)
     (sym c.in_ok-passes.ensures.gives ∙ c.if-branch.true) c.if-offer-segments.false leaf
     ∙ c.loop-self.invariant.same in
     record {
       same = same;
       keeps = keeps_then c.args.self.now c.loop-self.self c.next_offer.new.self c.loop-self.invariant.keeps
-          c.next_offer.ensures.keeps;
-      taken = takes_then c.loop-self.invariant.taken (takes_then c.take.ensures.takes c.passes.ensures.takes);
+          c.in_ok-offer.ensures.keeps;
+      taken = takes_then c.loop-self.invariant.taken (takes_then c.take.ensures.takes (takes_then c.next_offer.ensures.takes c.passes.ensures.takes));
     }
+
+pub walk::Walk::advance-returns-in_default-clause-gives :
+    goal.walk::Walk::advance-returns-in_default-clause-gives
+walk::Walk::advance-returns-in_default-clause-gives g t c =
+    let all = c.args.segments.now in
+    let d = g.V.Lent.meaning c.args.evaluation.now.root in
+    let gives = rw c.in_default.is at c.in_ok-offer.ensures.gives in (
+      sym c.loop-self.invariant.same
+          ∙ skipped-reach d (pending g.V.Lent.meaning all c.loop-self.self) [] gives.0,
+      ap (flat_map (choice_reaches d)) gives.1,
+    )
 
 pub walk::Walk::advance-returns-in_default-clause-keeps :
     goal.walk::Walk::advance-returns-in_default-clause-keeps
 walk::Walk::advance-returns-in_default-clause-keeps g t c =
     keeps_then c.args.self.now c.loop-self.self c.next_offer.new.self c.loop-self.invariant.keeps
-    c.next_offer.ensures.keeps
+    c.in_ok-offer.ensures.keeps
 
 pub walk::Walk::advance-returns-then-offer-segments-clause-keeps :
     goal.walk::Walk::advance-returns-then-offer-segments-clause-keeps
 walk::Walk::advance-returns-then-offer-segments-clause-keeps g t c =
     keeps_then c.args.self.now c.loop-self.self c.next_offer.new.self c.loop-self.invariant.keeps
-    c.next_offer.ensures.keeps
+    c.in_ok-offer.ensures.keeps
 
 -- ---- tallies
 
@@ -253,22 +267,24 @@ tally::spread-loop-offer-preserved g t c =
     let m = g.V.Lent.meaning in (
       spread-failed m c.args.segments.now (m c.args.evaluation.now.root) c.args.value c.args.way
           c.args.children.now c.loop-offer.children c.loop-offer.frame c.frame_offer.new.frame
-          c.in-Some.offer c.loop-offer.invariant.0 c.frame_offer.ensures.reached c.in-Some.ensures.gives
+          c.in-Some.offer c.loop-offer.invariant.0 c.frame_offer.ensures.reached (rw c.in-Some.is at c.in_ok-offer.ensures.gives)
           (sym c.in_ok-passes.ensures.gives ∙ c.if-branch.false),
-      takes_then c.loop-offer.invariant.1 (takes_then c.take.ensures.takes c.passes.ensures.takes),
+      takes_then c.loop-offer.invariant.1
+          (takes_then c.frame_offer.ensures.takes (takes_then c.take.ensures.takes c.passes.ensures.takes)),
     )
 
-pub tally::spread-loop-offer-preserved-in-Continue-branch-4 :
-    goal.tally::spread-loop-offer-preserved-in-Continue-branch-4
-tally::spread-loop-offer-preserved-in-Continue-branch-4 g t c =
+pub tally::spread-loop-offer-preserved-in-Continue-branch-6 :
+    goal.tally::spread-loop-offer-preserved-in-Continue-branch-6
+tally::spread-loop-offer-preserved-in-Continue-branch-6 g t c =
     let m = g.V.Lent.meaning in (
       spread-passed m c.args.segments.now (m c.args.evaluation.now.root) c.args.value c.args.way
           c.args.children.now c.loop-offer.children c.loop-offer.frame c.frame_offer.new.frame
-          c.in-Some.offer c.loop-offer.invariant.0 c.frame_offer.ensures.reached c.in-Some.ensures.gives
+          c.in-Some.offer c.loop-offer.invariant.0 c.frame_offer.ensures.reached (rw c.in-Some.is at c.in_ok-offer.ensures.gives)
           c.add.new.children (g.met.V.Selectable.sound c.args.value)
           (sym c.in_ok-passes.ensures.gives ∙ c.if-branch.true) c.in_ok-add.ensures.inside c.in_ok-add.ensures.sums
           c.in_ok-add.ensures.fewer,
-      takes_then c.loop-offer.invariant.1 (takes_then c.take.ensures.takes c.passes.ensures.takes),
+      takes_then c.loop-offer.invariant.1
+          (takes_then c.frame_offer.ensures.takes (takes_then c.take.ensures.takes c.passes.ensures.takes)),
     )
 
 pub tally::spread-returns-clause-sums : goal.tally::spread-returns-clause-sums
@@ -276,7 +292,7 @@ tally::spread-returns-clause-sums g t c = λ f.
     let m = g.V.Lent.meaning in
     spread-sums m c.args.segments.now (m c.args.evaluation.now.root) c.args.value c.args.way
     c.args.children.now c.loop-offer.children c.loop-offer.frame c.loop-offer.invariant.0
-    c.in_default.ensures.gives f
+    (rw c.in_default.is at c.in_ok-offer.ensures.gives) f
 
 pub tally::spread-returns-clause-fewer : goal.tally::spread-returns-clause-fewer
 tally::spread-returns-clause-fewer g t c =

@@ -1,43 +1,147 @@
 -- The steps of a walk.
-use Rattle.std.proofs.Common.{◌≡◌, ℕ, zero, suc, ◌+◌, ◌<◌, ◌≤◌, true, false, if◌then◌else◌}
+use Rattle.std.proofs.Common.{◌≡◌, ℕ, zero, suc, ◌+◌, ◌<◌, ◌≤◌, Bool, true, false, if◌then◌else◌}
 use Rattle.std.proofs.Common.{List, [], ◌∷◌, ◌++◌, Option, Some, None, length, map}
-use Rattle.std.proofs.Common.{slice_index_or, option_to_list, refl, ap, ap₂, sym, ◌∙◌, arith}
-use Rattle.std.specs.List.{flat_map, sum_by}
+use Rattle.std.proofs.Common.{slice_index_or, option_to_list, refl, ap, ap₂, sym, subst, ◌∙◌, arith, drop}
+use Rattle.std.proofs.Common.{Bor, IfNone, OnSome}
+use Rattle.std.specs.List.{flat_map, slice_get, sum_by}
+use Rattle.std.specs.Option.{option_map_or}
 use Rattle.std.proofs.lemmas.Grind.{flat_map-append}
 use Rattle.std.proofs.lemmas.List.Sums.{sum_by-append, sum_by-cons}
-use Rattle.jp_document.specs.Location.{entries}
+use Rattle.jp_document.specs.Location.{Location, entries}
 use Rattle.jp_document.specs.Node.{Node, node_at, root_of}
 use Rattle.jp_document.specs.Value.{Value}
-use Rattle.jp_tree.specs.Tree.{ExprTree, segment_then, segments}
-use Rattle.jp_tree.specs.Views.{segment_of}
+use Rattle.jp_tree.specs.Tree.{ExprTree, SegmentTrees, SelectorTree, segment_then, segments, wildcard}
+use Rattle.jp_tree.specs.Views.{segment_of, selector_of}
 use Rattle.jp_tree.specs.declared.tree.Segment.{Segment}
+use Rattle.jp_tree.specs.declared.tree.Selector.{Selector}
 use Rattle.jp_select.proofs.Walks.{drop_past}
 use Rattle.std.proofs.lemmas.Option.{slice_get_past}
-use Rattle.jp_evaluate.specs.Private.Walk.{choice_at, chosen_node, choice_reaches}
+use Rattle.jp_evaluate.specs.Private.Walk.{LeadsNowhere, IsLeaf, frame_choices, turn_of}
+use Rattle.jp_evaluate.specs.Private.Walk.{Choice, LeadsNowhereAt, Skips, choice_at, chosen_node, choice_reaches}
 use Rattle.jp_evaluate.specs.Private.Walk.{choice_weight, choices_from, entered, frames_pending}
 use Rattle.jp_evaluate.specs.Private.Walk.{offered, passes, pending, reached_at, reached_node}
 use Rattle.jp_evaluate.specs.Private.Walk.{reaches}
 use Rattle.jp_evaluate.specs.Private.Walk.{segments_left, start_choice, steps_of, turns}
 use Rattle.jp_evaluate.specs.Private.Walk.{walk_frames, walk_reaches, walk_weight}
+use Rattle.jp_evaluate.specs.declared.walk.Frame.{Frame}
 use Rattle.jp_evaluate.specs.declared.walk.Offer.{Offer}
+use Rattle.jp_evaluate.specs.declared.walk.Turn.{Turn}
 use Rattle.jp_evaluate.specs.declared.walk.Reached.{Reached}
 use Rattle.jp_evaluate.specs.declared.walk.Walk.{Walk}
 use Rattle.jp_evaluate.proofs.Nodelists.Anywhere.{holds-anywhere}
-use Rattle.jp_evaluate.proofs.Walks.Choices.{drop_none, pending-push}
+use Rattle.jp_evaluate.proofs.Walks.Choices.{drop_none, leaves-skip, pending-push, turn-skips}
 use Rattle.jp_evaluate.proofs.Walks.Leaves.{no_choices, no_entries}
 use Rattle.jp_evaluate.proofs.Walks.Reaching.{choice-weighs, enters, enters_less}
+use Rattle.jp_evaluate.proofs.Walks.Skipping.{skips-flat, skips-less, skips-none, skips-same}
 use Rattle.jp_evaluate.proofs.Walks.Turns.{segments_left-next}
 
 -- the offer o of the walk that was w leaves the walk v
 abbrev pub Offers : {V : Type 0} → (V → Value) → List Segment → Walk V → Offer V → Walk V → Type 0
 Offers means all w o v =
-    pending means all w ≡ choice_at (reached_at [] (walk_frames v)) (offered means all o) ∷ pending means all v
+    Skips LeadsNowhereAt (pending means all w)
+    (choice_at (reached_at [] (walk_frames v)) (offered means all o) ∷ pending means all v)
 
 -- a test is asked of the value alone
 pub passes-anywhere : (t : Option ExprTree) (d : Value) (n : Node)
     → passes t d n ≡ passes t d (root_of n.value)
 passes-anywhere None d n = refl
 passes-anywhere (Some e) d n = holds-anywhere e d n
+
+-- the segment that is next
+abbrev pub IsThere : List Segment → ℕ → Type 0
+IsThere all i =
+    (s : Segment) × (segments_left all i ≡ segment_then (segment_of s) (segments_left all (i + 1)))
+
+pub there : (all : List Segment) (i : ℕ) → i < length all → IsThere all i
+there [] i within = absurd (omega arith)
+there (x ∷ xs) i within = (
+  slice_index_or (x ∷ xs) i x,
+  segments_left-next (x ∷ xs) i (slice_index_or (x ∷ xs) i x) within
+      (again (x ∷ xs) i x within),
+)
+  where
+    again : (ys : List Segment) (j : ℕ) (y : Segment) → j < length ys
+        → slice_index_or ys j y ≡ slice_index_or ys j (slice_index_or ys j y)
+    again [] j y h = absurd (omega arith)
+    again (z ∷ ys) zero y h = refl
+    again (z ∷ ys) (suc j) y h = again ys j y (omega arith)
+
+-- ---- choices that are skipped
+
+-- a choice with nothing inside it reaches nothing
+pub idle-nothing : (d : Value) (l : Location) (c : Choice) → LeadsNowhere c → reaches c.left d (node_at l c.value) ≡ []
+idle-nothing d l c idle =
+    enters idle.segment idle.rest c.left d c.value l idle.left
+    ∙ ap (λ cs. flat_map (choice_reaches d) (map (choice_at l) cs))
+    (no_choices c.value (turns c.left) idle.leaf)
+
+idle-reaches : (d : Value) (c : Location × Choice) → LeadsNowhereAt c → choice_reaches d c ≡ []
+idle-reaches d c idle =
+    either (passes c.1.test d (chosen_node c)) (reaches c.1.left d (chosen_node c))
+    (idle-nothing d (c.0 ++ c.1.step) c.1 idle)
+  where
+    either : (b : Bool) (ns : List Node) → ns ≡ [] → (if b then ns else []) ≡ []
+    either true ns none = none
+    either false ns none = refl
+
+pub skipped-reach : (d : Value) (before after : List (Location × Choice)) → Skips LeadsNowhereAt before after
+    → flat_map (choice_reaches d) before ≡ flat_map (choice_reaches d) after
+skipped-reach d before after skips = skips-flat LeadsNowhereAt (choice_reaches d) before after (idle-reaches d) skips
+
+offers-reach : {V : Type 0} (means : V → Value) (all : List Segment) (d : Value) (w v : Walk V) (o : Offer V)
+    → Offers means all w o v → walk_reaches means all d w
+    ≡ flat_map (choice_reaches d)
+    (choice_at (reached_at [] (walk_frames v)) (offered means all o) ∷ pending means all v)
+offers-reach means all d w v o gives =
+    skipped-reach d (pending means all w)
+    (choice_at (reached_at [] (walk_frames v)) (offered means all o) ∷ pending means all v) gives
+
+offers-weigh : {V : Type 0} (means : V → Value) (all : List Segment) (w v : Walk V) (o : Offer V)
+    → Offers means all w o v
+    → choice_weight (choice_at (reached_at [] (walk_frames v)) (offered means all o)) + walk_weight means all v
+    ≤ walk_weight means all w
+offers-weigh means all w v o gives =
+    let c = choice_at (reached_at [] (walk_frames v)) (offered means all o) in
+    let less = skips-less LeadsNowhereAt choice_weight (pending means all w) (c ∷ pending means all v) gives in
+    let sum = sum_by-cons choice_weight c (pending means all v) in
+    omega arith
+
+-- those of a frame on the way down that have nothing inside them
+pub frame-skips : {V : Type 0} (means : V → Value) (all : List Segment) (f g : Frame V) (turn : Turn)
+    → g.reached ≡ f.reached → g.turn ≡ f.turn
+    → slice_get (turns (segments_left all f.reached.done)) f.turn ≡ Some (turn_of all turn)
+    → IfNone turn.selector (turn.done < length all) → OnSome turn.selector (g.next ≡ f.next)
+    → Skips IsLeaf (drop f.next (entries (means f.reached.value))) (drop g.next (entries (means f.reached.value)))
+    → Skips LeadsNowhere (frame_choices means all f) (frame_choices means all g)
+frame-skips {V = X} means all f g turn reached same at inside others leaves = go turn.selector refl
+  where
+    v : Value
+    v = means f.reached.value
+
+    ts : List (SelectorTree × SegmentTrees)
+    ts = turns (segments_left all f.reached.done)
+
+    on : ℕ → List Choice
+    on n = choices_from v (drop f.turn ts) n
+
+    after : on g.next ≡ frame_choices means all g
+    after =
+        ap₂ (λ (p : Reached X) (i : ℕ). choices_from (means p.value) (drop i (turns (segments_left all p.done))) g.next)
+        (sym reached) (sym same)
+
+    go : (o : Option (Bor Selector)) → turn.selector ≡ o
+        → Skips LeadsNowhere (frame_choices means all f) (frame_choices means all g)
+    go None is =
+        let next = there all turn.done (subst (λ o. IfNone o (turn.done < length all)) is inside) in
+        let left = segments_left all turn.done in
+        skips-same LeadsNowhere (on f.next) (on g.next) (frame_choices means all g)
+        (turn-skips v ts f.turn f.next g.next (wildcard, left)
+        (at ∙ ap (λ o. Some (option_map_or (λ s. selector_of s.now) o wildcard, left)) is)
+        (leaves-skip v f.next g.next (segment_of next.0) (segments_left all (turn.done + 1)) left next.1 leaves)) after
+    go (Some s) is =
+        let stays : g.next ≡ f.next = subst (λ o. OnSome o (g.next ≡ f.next)) is others in
+        skips-same LeadsNowhere (on f.next) (on f.next) (frame_choices means all g) (skips-none LeadsNowhere (on f.next))
+        (ap on (sym stays) ∙ after)
 
 -- ---- a choice that does not pass
 
@@ -46,16 +150,15 @@ pub passed_over : {V : Type 0} (means : V → Value) (all : List Segment) (d : V
     → walk_reaches means all d v ≡ walk_reaches means all d w
 passed_over means all d w v o gives fails =
     let n = chosen_node (choice_at (reached_at [] (walk_frames v)) (offered means all o)) in
-    sym (ap (flat_map (choice_reaches d)) gives
+    sym (offers-reach means all d w v o gives
     ∙ ap (λ b. (if b then reaches (offered means all o).left d n else []) ++ walk_reaches means all d v)
     (passes-anywhere (offered means all o).test d n ∙ fails))
 
 pub offer_less : {V : Type 0} (means : V → Value) (all : List Segment) (w v : Walk V) (o : Offer V) → Offers means all w o v
     → walk_weight means all v < walk_weight means all w
 offer_less means all w v o gives =
-    let c = choice_at (reached_at [] (walk_frames v)) (offered means all o) in
-    let sum = ap (sum_by choice_weight) gives ∙ sum_by-cons choice_weight c (pending means all v) in
-    let some = choice-weighs c in
+    let some = choice-weighs (choice_at (reached_at [] (walk_frames v)) (offered means all o)) in
+    let less = offers-weigh means all w v o gives in
     omega arith
 
 -- ---- a choice where no segment is left
@@ -66,7 +169,7 @@ pub ends_at : {V : Type 0} (means : V → Value) (all : List Segment) (d : Value
     → walk_reaches means all d w ≡ reached_node means v o.reached ∷ walk_reaches means all d v
 ends_at means all d w v o gives passed past =
     let n = reached_node means v o.reached in
-    ap (flat_map (choice_reaches d)) gives
+    offers-reach means all d w v o gives
     ∙ ap (λ b. (if b then reaches (offered means all o).left d n else []) ++ walk_reaches means all d v)
     (passes-anywhere (offered means all o).test d n ∙ passed)
     ∙ ap (λ xs. reaches (segments (map segment_of xs)) d n ++ walk_reaches means all d v)
@@ -96,25 +199,6 @@ entered_pending means all v u p begun same frames =
     (λ o. map (choice_at (reached_at [] fs)) (map (start_choice means all) (option_to_list o))
     ++ frames_pending means all [] fs) (sym begun))
 
--- the segment that is next
-abbrev pub IsThere : List Segment → ℕ → Type 0
-IsThere all i =
-    (s : Segment) × (segments_left all i ≡ segment_then (segment_of s) (segments_left all (i + 1)))
-
-pub there : (all : List Segment) (i : ℕ) → i < length all → IsThere all i
-there [] i within = absurd (omega arith)
-there (x ∷ xs) i within = (
-  slice_index_or (x ∷ xs) i x,
-  segments_left-next (x ∷ xs) i (slice_index_or (x ∷ xs) i x) within
-      (again (x ∷ xs) i x within),
-)
-  where
-    again : (ys : List Segment) (j : ℕ) (y : Segment) → j < length ys
-        → slice_index_or ys j y ≡ slice_index_or ys j (slice_index_or ys j y)
-    again [] j y h = absurd (omega arith)
-    again (z ∷ ys) zero y h = refl
-    again (z ∷ ys) (suc j) y h = again ys j y (omega arith)
-
 pub goes_on : {V : Type 0} (means : V → Value) (all : List Segment) (d : Value) (w v u : Walk V) (o : Offer V) → Offers means all w o v
     → v.first ≡ None → passes (offered means all o).test d (root_of (offered means all o).value) ≡ true
     → o.reached.done < length all → u.first ≡ v.first
@@ -132,7 +216,7 @@ goes_on means all d w v u o gives begun passed more same frames =
     (sym
     (enters (segment_of next.0) (segments_left all (p.done + 1)) left d
     (means p.value) l next.1))
-    ∙ sym (ap (flat_map (choice_reaches d)) gives
+    ∙ sym (offers-reach means all d w v o gives
     ∙ ap
     (λ b. (if b then reaches left d (node_at l (means p.value)) else [])
     ++ walk_reaches means all d v)
@@ -152,7 +236,7 @@ goes_on_less means all w v u o gives begun more same frames =
     let c = choice_at (reached_at [] (walk_frames v)) (offered means all o) in
     let after = ap (sum_by choice_weight) (entered_pending means all v u p begun same frames)
     ∙ sum_by-append choice_weight choices (pending means all v) in
-    let before = ap (sum_by choice_weight) gives ∙ sum_by-cons choice_weight c (pending means all v) in
+    let before = offers-weigh means all w v o gives in
     let less =
     enters_less (segment_of next.0) (segments_left all (p.done + 1)) left
     (means p.value) l next.1 in
@@ -175,7 +259,7 @@ ends_in_leaf means all d w v o gives passed more leaf =
     enters (segment_of next.0) (segments_left all (p.done + 1)) left d (means p.value) l next.1
     ∙ ap (λ cs. flat_map (choice_reaches d) (map (choice_at l) cs))
     (no_choices (means p.value) (turns left) (no_entries (means p.value) (omega (arith, leaf)))) in
-    sym (ap (flat_map (choice_reaches d)) gives
+    sym (offers-reach means all d w v o gives
     ∙ ap
     (λ b. (if b then reaches left d (node_at l (means p.value)) else [])
     ++ walk_reaches means all d v)

@@ -4,17 +4,18 @@ use Rattle.std.proofs.Common.{◌≡◌, ℕ, suc, ◌+◌, List, [], ◌∷◌,
 use Rattle.std.proofs.Common.{None, drop, map, option_and_then, option_map, option_to_list, Vec}
 use Rattle.std.proofs.Common.{Global, refl, ap, ap₂, sym, ◌∙◌, append_assoc, arith}
 use Rattle.std.specs.List.{flat_map, slice_get}
-use Rattle.std.proofs.lemmas.List.{append-nil}
+use Rattle.std.proofs.lemmas.List.{append-nil, drop-map}
 use Rattle.std.proofs.lemmas.Option.{slice_get-map}
-use Rattle.jp_document.specs.Location.{Step, Location}
+use Rattle.jp_document.specs.Location.{Step, Location, entries}
 use Rattle.jp_document.specs.Value.{Value}
-use Rattle.jp_tree.specs.Tree.{SegmentTrees, SelectorTree}
+use Rattle.jp_tree.specs.Tree.{SegmentTree, SegmentTrees, SelectorTree, segment_then, wildcard}
 use Rattle.jp_tree.specs.declared.tree.Segment.{Segment}
 use Rattle.jp_select.proofs.Walks.{drop_at, drop_past}
 use Rattle.jp_select.specs.Selectors.{candidates}
 use Rattle.jp_evaluate.specs.Private.Walk.{Choice, choice_at, choice_of, choices_from}
-use Rattle.jp_evaluate.specs.Private.Walk.{frame_choices, frames_pending, pending, reached_at}
+use Rattle.jp_evaluate.specs.Private.Walk.{LeadsNowhere, LeadsNowhereAt, IsLeaf, Skips, frame_choices, frames_pending, pending, reached_at}
 use Rattle.jp_evaluate.specs.Private.Walk.{start_choice, steps_of, turn_choices, walk_frames}
+use Rattle.jp_evaluate.proofs.Walks.Skipping.{skips-before, skips-from, skips-map, skips-same, skips-then}
 use Rattle.jp_evaluate.specs.declared.walk.Frame.{Frame}
 use Rattle.jp_evaluate.specs.declared.walk.Reached.{Reached}
 use Rattle.jp_evaluate.specs.declared.walk.Walk.{Walk}
@@ -67,6 +68,35 @@ turn_next v ts i k t at past =
     ∙ ap (λ cs. cs ++ flat_map (turn_choices v) (drop (suc i) ts))
     (sym (drop_past (turn_choices v t) k none))
     ∙ ap (λ us. choices_from v us k) (sym (drop_at ts i t at))
+
+-- ---- choices that are skipped
+
+-- those of a turn, and with it of all
+pub turn-skips : (v : Value) (ts : List (SelectorTree × SegmentTrees)) (i k n : ℕ)
+    (t : SelectorTree × SegmentTrees) → slice_get ts i ≡ Some t
+    → Skips LeadsNowhere (drop k (turn_choices v t)) (drop n (turn_choices v t))
+    → Skips LeadsNowhere (choices_from v (drop i ts) k) (choices_from v (drop i ts) n)
+turn-skips v ts i k n t at skips =
+    let more = flat_map (turn_choices v) (drop (suc i) ts) in
+    let rest = drop_at ts i t at in
+    skips-same LeadsNowhere (choices_from v (drop i ts) k) (drop n (turn_choices v t) ++ more) (choices_from v (drop i ts) n)
+    (skips-from LeadsNowhere (choices_from v (drop i ts) k) (drop k (turn_choices v t) ++ more)
+    (drop n (turn_choices v t) ++ more) (ap (λ us. choices_from v us k) rest)
+    (skips-before LeadsNowhere (drop k (turn_choices v t)) (drop n (turn_choices v t)) more skips))
+    (ap (λ us. choices_from v us n) (sym rest))
+
+-- the leaves among a value's children, where a segment is left
+pub leaves-skip : (v : Value) (k n : ℕ) (s : SegmentTree) (rest left : SegmentTrees) → left ≡ segment_then s rest
+    → Skips IsLeaf (drop k (entries v)) (drop n (entries v))
+    → Skips LeadsNowhere (drop k (turn_choices v (wildcard, left))) (drop n (turn_choices v (wildcard, left)))
+leaves-skip v k n s rest left is skips =
+    let make = choice_of (wildcard, left) in
+    let es = entries v in
+    skips-same LeadsNowhere (drop k (map make es)) (map make (drop n es)) (drop n (map make es))
+    (skips-from LeadsNowhere (drop k (map make es)) (map make (drop k es)) (map make (drop n es)) (drop-map make k es)
+    (skips-map IsLeaf LeadsNowhere make (drop k es) (drop n es)
+    (λ e leaf. record { segment = s; rest = rest; left = is; leaf = leaf }) skips))
+    (sym (drop-map make n es))
 
 -- after the last turn there is no choice
 pub turns_end : (v : Value) (ts : List (SelectorTree × SegmentTrees)) (i k : ℕ)
@@ -123,41 +153,55 @@ frames_alone means all w v first begun same =
     pending_frames means all w (walk_frames v) first same
     ∙ sym (pending_frames means all v (walk_frames v) begun refl)
 
--- the last frame's next choice
-pub frame_next : {V : Type 0} (means : V → Value) (all : List Segment)
-    (before : List (Location × Choice)) (w v : Walk V) (f g : Frame V) (c : Choice) → w.first ≡ None → v.first ≡ None → pending means all w ≡ before → w.top ≡ Some f
-    → v.top ≡ Some g → v.below ≡ w.below → g.reached ≡ f.reached
-    → frame_choices means all f ≡ c ∷ frame_choices means all g
-    → before ≡ choice_at (reached_at [] (walk_frames v)) c ∷ pending means all v
-frame_next {V = X} means all before w v f g c first begun rest top new below reached choices =
-    let b = w.below.items in
-    let m = reached_at [] b ++ steps_of f.reached.step in
-    let was = pending_frames means all w (b ++ f ∷ []) first (ap (λ t. b ++ option_to_list t) top) in
-    let frames : walk_frames v ≡ b ++ g ∷ [] =
-    ap₂ (λ (x : Vec (Frame X) Global) t. x.items ++ option_to_list t) below new in
-    let is = pending_frames means all v (b ++ g ∷ []) begun frames in
-    let at : reached_at [] (walk_frames v) ≡ m =
-    ap (reached_at []) frames
-    ∙ reached-push [] b g ∙ ap (λ (p : Reached X). reached_at [] b ++ steps_of p.step) reached in
-    sym rest ∙ was ∙ pending-push means all [] b f
-    ∙ ap (λ cs. map (choice_at m) cs ++ frames_pending means all [] b) choices
-    ∙ ap₂ (λ l t. choice_at l c ∷ t) (sym at)
-    (ap
-    (λ (p : Reached X). map (choice_at (reached_at [] b ++ steps_of p.step)) (frame_choices means all g)
-    ++ frames_pending means all [] b) (sym reached) ∙ sym (is ∙ pending-push means all [] b g))
+module _ {V : Type 0} (means : V → Value) (all : List Segment) (before : List (Location × Choice)) (w v : Walk V)
+    (f : Frame V) (first : w.first ≡ None) (begun : v.first ≡ None)
+    (rest : Skips LeadsNowhereAt before (pending means all w)) (top : w.top ≡ Some f) where
+  abbrev at_last : Location
+  at_last = reached_at [] w.below.items ++ steps_of f.reached.step
 
--- a frame without more choices is left
-pub frame_left : {V : Type 0} (means : V → Value) (all : List Segment)
-    (before : List (Location × Choice)) (w v : Walk V) (f : Frame V)
-    → w.first ≡ None → v.first ≡ None → pending means all w ≡ before → w.top ≡ Some f → v.top ≡ None
-    → v.below ≡ w.below → frame_choices means all f ≡ [] → pending means all v ≡ before
-frame_left {V = X} means all before w v f first begun rest top new below choices =
-    let b = w.below.items in
-    let m = reached_at [] b ++ steps_of f.reached.step in
-    let was = pending_frames means all w (b ++ f ∷ []) first (ap (λ t. b ++ option_to_list t) top) in
-    let is =
-    pending_frames means all v (b ++ []) begun
-    (ap₂ (λ (x : Vec (Frame X) Global) t. x.items ++ option_to_list t) below new) in
-    is ∙ ap (frames_pending means all []) (append-nil b)
-    ∙ ap (λ cs. map (choice_at m) cs ++ frames_pending means all [] b) (sym choices)
-    ∙ sym (was ∙ pending-push means all [] b f) ∙ rest
+  -- what its choices and those of the frames below are
+  pending-last : pending means all w
+      ≡ map (choice_at at_last) (frame_choices means all f) ++ frames_pending means all [] w.below.items
+  pending-last =
+      pending_frames means all w (w.below.items ++ f ∷ []) first
+      (ap (λ t. w.below.items ++ option_to_list t) top)
+      ∙ pending-push means all [] w.below.items f
+
+  skips-last : (cs : List Choice) → Skips LeadsNowhere (frame_choices means all f) cs
+      → Skips LeadsNowhereAt before (map (choice_at at_last) cs ++ frames_pending means all [] w.below.items)
+  skips-last cs choices =
+      let b = frames_pending means all [] w.below.items in
+      let mine = map (choice_at at_last) (frame_choices means all f) in
+      let left = map (choice_at at_last) cs in
+      skips-then LeadsNowhereAt before (pending means all w) (left ++ b) rest
+      (skips-from LeadsNowhereAt (pending means all w) (mine ++ b) (left ++ b) pending-last
+      (skips-before LeadsNowhereAt mine left b
+      (skips-map LeadsNowhere LeadsNowhereAt (choice_at at_last) (frame_choices means all f) cs (λ c idle. idle) choices)))
+
+  -- the last frame's next choice
+  pub frame_next : (g : Frame V) (c : Choice) → v.below ≡ w.below → v.top ≡ Some g → g.reached ≡ f.reached
+      → Skips LeadsNowhere (frame_choices means all f) (c ∷ frame_choices means all g)
+      → Skips LeadsNowhereAt before (choice_at (reached_at [] (walk_frames v)) c ∷ pending means all v)
+  frame_next g c below new reached choices =
+      let b = w.below.items in
+      let frames : walk_frames v ≡ b ++ g ∷ [] =
+      ap₂ (λ (x : Vec (Frame V) Global) t. x.items ++ option_to_list t) below new in
+      let is = pending_frames means all v (b ++ g ∷ []) begun frames in
+      let at : reached_at [] (walk_frames v) ≡ at_last =
+      ap (reached_at []) frames
+      ∙ reached-push [] b g ∙ ap (λ (p : Reached V). reached_at [] b ++ steps_of p.step) reached in
+      skips-same LeadsNowhereAt before
+      (map (choice_at at_last) (c ∷ frame_choices means all g) ++ frames_pending means all [] b)
+      (choice_at (reached_at [] (walk_frames v)) c ∷ pending means all v)
+      (skips-last (c ∷ frame_choices means all g) choices)
+      (ap₂ (λ l t. choice_at l c ∷ t) (sym at)
+      (ap
+      (λ (p : Reached V). map (choice_at (reached_at [] b ++ steps_of p.step)) (frame_choices means all g)
+      ++ frames_pending means all [] b) (sym reached) ∙ sym (is ∙ pending-push means all [] b g)))
+
+  -- a frame without more choices is left
+  pub frame_left : walk_frames v ≡ w.below.items → Skips LeadsNowhere (frame_choices means all f) []
+      → Skips LeadsNowhereAt before (pending means all v)
+  frame_left frames choices =
+      skips-same LeadsNowhereAt before (frames_pending means all [] w.below.items) (pending means all v)
+      (skips-last [] choices) (sym (pending_frames means all v w.below.items begun frames))

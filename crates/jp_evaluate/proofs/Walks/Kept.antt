@@ -62,13 +62,10 @@ keeps_front v w fs f was is kept =
     )
 
 -- the same where it stood apart
-pub keeps_below : {V : Type 0} (v w : Walk V) (f : Frame V) → v.top ≡ Some f → w.top ≡ None
-    → w.below ≡ v.below → w.kept ≡ min v.kept (length v.below.items) → Keeps v w
-keeps_below {V = X} v w f was none below kept =
-    keeps_front v w v.below.items f (ap (λ t. v.below.items ++ option_to_list t) was)
-    (ap₂ (λ (b : Vec (Frame X) Global) t. b.items ++ option_to_list t) below none
-    ∙ append-nil v.below.items)
-    kept
+pub keeps-left : {V : Type 0} (v w : Walk V) (f : Frame V) → v.top ≡ Some f → walk_frames w ≡ v.below.items
+    → w.kept ≡ min v.kept (length v.below.items) → Keeps v w
+keeps-left v w f was is kept =
+    keeps_front v w v.below.items f (ap (λ t. v.below.items ++ option_to_list t) was) is kept
 
 -- a frame came
 pub keeps_push : {V : Type 0} (v w : Walk V) (f : Frame V) → walk_frames w ≡ walk_frames v ++ f ∷ []

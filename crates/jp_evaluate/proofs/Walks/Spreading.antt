@@ -1,5 +1,5 @@
 -- The ways that go on from a value, choice by choice.
-use Rattle.std.proofs.Common.{◌≡◌, ◌≤◌, ◌+◌, ◌*◌, ℕ, true, false, if◌then◌else◌, List, [], ◌∷◌}
+use Rattle.std.proofs.Common.{◌≡◌, ◌≤◌, ◌+◌, ◌*◌, ℕ, Bool, true, false, if◌then◌else◌, List, [], ◌∷◌}
 use Rattle.std.proofs.Common.{Option, Some, None, drop, refl, ap, ap₂, sym, subst, ◌∙◌, arith}
 use Rattle.std.specs.List.{All, sum_by}
 use Rattle.std.specs.Option.{IfSome, option_map_or}
@@ -7,7 +7,7 @@ use Rattle.std.specs.BTreeMap.{BTreeMap}
 use Rattle.std.proofs.lemmas.List.Elements.{All-head}
 use Rattle.std.proofs.lemmas.List.Sums.{sum_by-cons}
 use Rattle.jp_document.specs.Location.{Step, child, step_of}
-use Rattle.jp_document.specs.Node.{root_of}
+use Rattle.jp_document.specs.Node.{Node, root_of}
 use Rattle.jp_document.specs.Value.{IsDocumentValue, Value}
 use Rattle.jp_document.specs.declared.location.Step as code
 use Rattle.jp_tree.specs.declared.tree.Segment.{Segment}
@@ -20,9 +20,11 @@ use Rattle.jp_evaluate.specs.Private.Tally.{AreByDone, AreInside, ByStep, Counts
 use Rattle.jp_evaluate.specs.Private.Tally.{children_sum}
 use Rattle.jp_evaluate.specs.Private.Tally.{choice_sum, inside, node_sum, reached_sum, spread_sum}
 use Rattle.jp_evaluate.specs.Private.Tally.{spread_weight, way_weight}
-use Rattle.jp_evaluate.specs.Private.Walk.{Choice, choices_from, frame_choices, offered, passes, reaches}
+use Rattle.jp_evaluate.specs.Private.Walk.{Choice, LeadsNowhere, Skips, choices_from, frame_choices, offered, passes, reaches}
 use Rattle.jp_evaluate.specs.Private.Walk.{segments_left, steps_of, turns, weight}
+use Rattle.jp_evaluate.proofs.Walks.Advances.{idle-nothing}
 use Rattle.jp_evaluate.proofs.Walks.Choices.{drop_none}
+use Rattle.jp_evaluate.proofs.Walks.Skipping.{skips-all, skips-less, skips-sum}
 use Rattle.jp_evaluate.proofs.Walks.Tallies.{IsInside, choices-inside}
 
 abbrev pub Children : Type 0 → Type 0
@@ -91,6 +93,15 @@ stays v u (Some s) c stands step is =
 
 -- ---- from choice to choice
 
+-- a choice with nothing inside it adds nothing
+idle-sum : (f : Value → ℕ) (d : Value) (c : Choice) → LeadsNowhere c → choice_sum f d c ≡ 0
+idle-sum f d c idle =
+    either (passes c.test d (root_of c.value)) (reaches c.left d (root_of c.value)) (idle-nothing d [] c idle)
+  where
+    either : (b : Bool) (ns : List Node) → ns ≡ [] → (if b then node_sum f ns else 0) ≡ 0
+    either true ns none = ap (node_sum f) none
+    either false ns none = refl
+
 pub spread-begun : {V : Type 0} (m : V → Value) (all : List Segment) (d : Value) (start : V) (way : Way)
     (before : Children V) (frame : Frame V) → frame.reached.value ≡ start → frame.reached.done ≡ way.done
     → frame.turn ≡ 0 → frame.next ≡ 0 → Spreads m all d start way before frame before
@@ -111,18 +122,22 @@ module _ {V : Type 0} (m : V → Value) (all : List Segment) (d : Value) (start 
     (before after : Children V) (frame next : Frame V) (o : Offer V)
     (so_far : Spreads m all d start way before frame after)
     (reached : next.reached ≡ frame.reached)
-    (gives : frame_choices m all frame ≡ offered m all o ∷ frame_choices m all next) where
+    (gives : Skips LeadsNowhere (frame_choices m all frame) (offered m all o ∷ frame_choices m all next)) where
   sum-next : (f : Value → ℕ) → sum_by (choice_sum f d) (frame_choices m all frame)
       ≡ choice_sum f d (offered m all o) + sum_by (choice_sum f d) (frame_choices m all next)
   sum-next f =
-      ap (sum_by (choice_sum f d)) gives
+      skips-sum LeadsNowhere (choice_sum f d) (frame_choices m all frame) (offered m all o ∷ frame_choices m all next)
+      (idle-sum f d) gives
       ∙ sum_by-cons (choice_sum f d) (offered m all o) (frame_choices m all next)
 
-  weigh-next : weigh (frame_choices m all frame)
-      ≡ weight (segments_left all o.reached.done) (m o.reached.value) + weigh (frame_choices m all next)
+  weigh-next : weight (segments_left all o.reached.done) (m o.reached.value) + weigh (frame_choices m all next)
+      ≤ weigh (frame_choices m all frame)
   weigh-next =
-      ap weigh gives
-      ∙ sum_by-cons (λ (c : Choice). weight c.left c.value) (offered m all o) (frame_choices m all next)
+      let less =
+      skips-less LeadsNowhere (λ (c : Choice). weight c.left c.value) (frame_choices m all frame)
+      (offered m all o ∷ frame_choices m all next) gives in
+      let sum = sum_by-cons (λ (c : Choice). weight c.left c.value) (offered m all o) (frame_choices m all next) in
+      omega arith
 
   value-next : next.reached.value ≡ start
   value-next = ap (λ (r : Reached V). r.value) reached ∙ so_far.value
@@ -147,7 +162,7 @@ module _ {V : Type 0} (m : V → Value) (all : List Segment) (d : Value) (start 
   stands : IsDocumentValue (m start) → IsInside (m start) (offered m all o)
   stands document =
       All-head (IsInside (m start)) (offered m all o) (frame_choices m all next)
-      (subst (All (IsInside (m start))) gives
+      (skips-all LeadsNowhere (IsInside (m start)) (frame_choices m all frame) (offered m all o ∷ frame_choices m all next) gives
       (subst (λ (x : V). All (IsInside (m start))
       (choices_from (m x) (drop frame.turn (turns (segments_left all frame.reached.done))) frame.next))
       (sym so_far.value)
@@ -192,12 +207,13 @@ module _ {V : Type 0} (m : V → Value) (all : List Segment) (d : Value) (start 
 -- at the end all went over
 pub spread-sums : {V : Type 0} (m : V → Value) (all : List Segment) (d : Value) (start : V) (way : Way)
     (before after : Children V) (frame : Frame V) → Spreads m all d start way before frame after
-    → frame_choices m all frame ≡ [] → (f : Value → ℕ)
+    → Skips LeadsNowhere (frame_choices m all frame) [] → (f : Value → ℕ)
     → capped (children_sum (inside (m start) (reached_sum f all d)) after)
     ≡ capped (children_sum (inside (m start) (reached_sum f all d)) before + spread_sum f all d (m start) way)
 spread-sums m all d start way before after frame so_far none f =
     let nothing : way.count * sum_by (choice_sum f d) (frame_choices m all frame) ≡ 0 =
-    ap (λ cs. way.count * sum_by (choice_sum f d) cs) none ∙ times-none way.count in
+    ap (λ n. way.count * n) (skips-sum LeadsNowhere (choice_sum f d) (frame_choices m all frame) [] (idle-sum f d) none)
+    ∙ times-none way.count in
     let was = so_far.sums f in
     omega arith
 

@@ -1,13 +1,13 @@
 -- What a walk still has to offer, frame by frame; m says what a value that is lent stands for.
 use Rattle.std.specs.Prelude.{◌≡◌, ◌≤◌, ℕ, suc, ◌+◌, List, [], ◌∷◌, ◌++◌, if◌then◌else◌, Bool, true, false}
 use Rattle.std.specs.Prelude.{Option, Some, None, drop, map, option_map, option_to_list, sum_by, take}
-use Rattle.std.specs.List.{flat_map}
+use Rattle.std.specs.List.{All, flat_map}
 use Rattle.std.specs.Option.{option_map_or}
-use Rattle.jp_document.specs.Location.{Step, Location, step_of}
+use Rattle.jp_document.specs.Location.{Step, Location, entries, step_of}
 use Rattle.jp_document.specs.Node.{Node}
 use Rattle.jp_document.specs.Value.{Value}
 use Rattle.jp_document.specs.declared.location.Step as code
-use Rattle.jp_tree.specs.Tree.{ExprTree, SegmentTrees, SelectorTree, SelectorTrees}
+use Rattle.jp_tree.specs.Tree.{ExprTree, SegmentTree, SegmentTrees, SelectorTree, SelectorTrees}
 use Rattle.jp_tree.specs.Views.{expr_of}
 use Rattle.jp_tree.specs.Tree.{filter, no_segments, no_selectors, segment}
 use Rattle.jp_tree.specs.Views.{segment_of}
@@ -88,6 +88,26 @@ offered m all o = record {
 abbrev pub start_choice : {V : Type 0} → (V → Value) → List Segment → V → Choice
 start_choice m all v =
     record { test = None; left = segments_left all 0; step = []; value = m v }
+
+-- a value with nothing inside it, with the step to it
+abbrev pub IsLeaf : Step × Value → Type 0
+IsLeaf e = entries e.1 ≡ []
+
+-- a choice with nothing inside it at which a segment is left, so that it leads nowhere
+pub record LeadsNowhere (c : Choice) : Type 0 where
+  pub segment : SegmentTree
+  pub rest : SegmentTrees
+  pub left : c.left ≡ segment_then segment rest
+  pub leaf : entries c.value ≡ []
+
+abbrev pub LeadsNowhereAt : Location × Choice → Type 0
+LeadsNowhereAt c = LeadsNowhere c.1
+
+-- the list goes on as after, behind some that are such
+pub record Skips {A : Type 0} (IsSuch : A → Type 0) (before after : List A) : Type 0 where
+  pub skipped : List A
+  pub such : All IsSuch skipped
+  pub is : before ≡ skipped ++ after
 
 -- ---- frames
 

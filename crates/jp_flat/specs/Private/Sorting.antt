@@ -1,5 +1,5 @@
 -- Members put in the order of their names, each instead of an earlier one of its name.
-use Rattle.std.specs.Prelude.{◌≡◌, ℕ, List, [], Option, Some, true}
+use Rattle.std.specs.Prelude.{◌≡◌, ℕ, List, [], Option, Some, map, true}
 use Rattle.std.specs.BTreeMap.{insert_entry}
 use Rattle.std.specs.Cmp.Lexicographic.{slice_cmp}
 use Rattle.std.specs.List.{filter}
@@ -9,7 +9,7 @@ use Rattle.std.specs.Ordering.{nat_cmp}
 use Rattle.jp_document.specs.Value.{Value, names_rise}
 use Rattle.jp_flat.specs.Flat.{Shown, all_of, member_with}
 use Rattle.jp_flat.specs.Private.Reading.{put_all}
-use Rattle.jp_flat.specs.Private.Parts.{is_named}
+use Rattle.jp_flat.specs.Private.Parts.{is_named, name_in}
 use Rattle.jp_flat.specs.declared.item.Item.{Item}
 use Rattle.jp_flat.specs.declared.item.Named.{Named}
 
@@ -34,3 +34,7 @@ pub record IsSameByName (t : Shown) (before after : List Named) : Type 0 where
   pub moved : IsPermutation before after
   pub named : (name : List ℕ)
       → filter (is_named t name) after ≡ filter (is_named t name) before
+
+-- the names of the members rise, and no two have the same
+abbrev pub MembersRise : Shown → List Named → Type 0
+MembersRise t members = names_rise (map (name_in t) members) ≡ true

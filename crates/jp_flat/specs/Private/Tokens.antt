@@ -1,5 +1,5 @@
 -- The tokens that a text has from an offset on, and what the program's tokens stand for.
-use Rattle.std.specs.Prelude.{◌≡◌, ◌+◌, ◌<◌, ◌≤◌, ◌||◌, ◌==◌, ◌++◌, ℕ, Bool, true, false, List, ◌∷◌}
+use Rattle.std.specs.Prelude.{◌≡◌, ◌+◌, ◌-◌, ◌<◌, ◌≤◌, ◌||◌, ◌==◌, ◌++◌, ℕ, Bool, true, false, List, ◌∷◌}
 use Rattle.std.specs.Prelude.{Option, Some, None, length, drop, refl, slice_index, take}
 use Rattle.std.specs.Coded.{Coded, code_by, coded×, coded_list, coded_ℕ}
 use Rattle.std.specs.Str.Parse.{AllDigits, digits_value}
@@ -45,10 +45,15 @@ pub record StandsAt (d : List ℕ) (first : ℕ) (s : List ℕ) : Type 0 where
   pub within : first + length s ≤ length d
   pub is : take (length s) (drop first d) ≡ s
 
--- a text that is spelled by itself stands where it says
+-- the text ends with the bytes
+abbrev pub IsEndOf : List ℕ → List ℕ → Type 0
+IsEndOf d s = drop (length d - length s) d ≡ s
+
+-- a text that is spelled by itself stands where it says, and one with escapes is followed by all
+-- that follows it
 abbrev pub IsSpelledIn : List ℕ → Spelled → Type 0
 IsSpelledIn d (Plain first s) = StandsAt d first s.now
-IsSpelledIn d (Escaped s) = Unit {0}
+IsSpelledIn d (Escaped s) = IsEndOf d s.now
 
 -- the characters are digits, and write the number, if they are at most 18
 pub record IsDigits (s : List ℕ) (n : ℕ) : Type 0 where

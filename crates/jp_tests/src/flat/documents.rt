@@ -6,7 +6,7 @@ use std::alloc::{AllocError, Global};
 use std::test::Fail;
 
 /// The compact text of a document in tables, None where they do not hold it.
-fn flat_text(alloc: Global, text: &str) -> Result<Option<String>, AllocError> {
+pub(crate) fn flat_text(alloc: Global, text: &str) -> Result<Option<String>, AllocError> {
     match flat_document(alloc, text.as_bytes()) {
         Some(flat) => Ok(Some(value_text(alloc, flat.value())?)),
         None => Ok(None),

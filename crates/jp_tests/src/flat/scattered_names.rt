@@ -1,4 +1,4 @@
-//! Objects of many members whose names come in any order.
+//! Objects whose names come in any order, up to many of them.
 
 use jp_flat::flat_document;
 use jp_lent::value_text;
@@ -58,7 +58,7 @@ fn printed(alloc: Global, names: &[String], twice: bool) -> Result<Option<String
 }
 
 /// Neither 11 nor 37 divides one of these counts, so each name has its turn.
-const COUNTS: [u32; 7] = [32, 40, 63, 64, 65, 100, 300];
+const COUNTS: [u32; 14] = [2, 3, 5, 8, 15, 16, 17, 32, 40, 63, 64, 65, 100, 300];
 
 #[test]
 fn names_in_any_order(rt: HostRuntime) -> Result<(), Fail> {

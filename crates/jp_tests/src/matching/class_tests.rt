@@ -1,7 +1,7 @@
 //! How many class tests an answer takes.
 
 use jp_iregexp::read_pattern;
-use jp_match::{Marks, Matching, Tests};
+use jp_match::{CountedPattern, Marks, Matching, Tests};
 use std::alloc::{AllocError, Global};
 use std::process::Abort;
 use std::test::Fail;
@@ -36,6 +36,24 @@ fn counts_go_on_from_call_to_call(rt: HostRuntime) -> Result<(), Fail> {
     let whole = Marks.whole(rt.alloc(), &pattern, "ba", &mut tests)?;
     let part = Marks.part(rt.alloc(), &pattern, "ba", &mut tests)?;
     assert_eq!(rt; (whole, part, tests.count()), (false, true, 3));
+    Ok(())
+}
+
+/// How many class tests it takes to answer whether the text is in the language of a pattern that was
+/// counted before.
+fn tests_of_whole(alloc: Global, pattern: &str, text: &str) -> Result<u64, Fail> {
+    let pattern = CountedPattern::new(read_pattern(alloc, pattern)?);
+    let mut tests = Tests::new();
+    Marks.whole_counted(alloc, &pattern, text, &mut tests)?;
+    Ok(tests.count())
+}
+
+#[test]
+fn tests_no_class_again_where_words_have_one_width(rt: HostRuntime) -> Result<(), Fail> {
+    for (text, count) in [("", 0), ("b2", 1), ("a2c", 3), ("a2d", 4), ("a2dd", 4)] {
+        let made = tests_of_whole(rt.alloc(), "a[0-9](c|d)", text)?;
+        assert_eq!(rt; made, count, "{text}");
+    }
     Ok(())
 }
 

@@ -110,6 +110,113 @@ fn answers_patterns_of_a_few_words(rt: HostRuntime) -> Result<(), Fail> {
     Ok(())
 }
 
+// The same for patterns whose words all have one number of characters, and for some that only look
+// so.
+const ONE_WIDTH: [(&str, &str, bool, bool); 54] = [
+    (
+        "[0-9]{4}-(0[1-9]|1[0-2])-[0-3][0-9]",
+        "2026-11-28",
+        true,
+        true,
+    ),
+    (
+        "[0-9]{4}-(0[1-9]|1[0-2])-[0-3][0-9]",
+        "2026-01-28",
+        true,
+        true,
+    ),
+    (
+        "[0-9]{4}-(0[1-9]|1[0-2])-[0-3][0-9]",
+        "2026-13-28",
+        false,
+        false,
+    ),
+    (
+        "[0-9]{4}-(0[1-9]|1[0-2])-[0-3][0-9]",
+        "2026-11-2",
+        false,
+        false,
+    ),
+    (
+        "[0-9]{4}-(0[1-9]|1[0-2])-[0-3][0-9]",
+        "2026-11-280",
+        false,
+        true,
+    ),
+    ("[0-9]{4}-(0[1-9]|1[0-2])-[0-3][0-9]", "", false, false),
+    (
+        "[0-9a-f]{8}(-[0-9a-f]{4}){3}-[0-9a-f]{3}",
+        "01234567-89ab-cdef-0123-45a",
+        true,
+        true,
+    ),
+    (
+        "[0-9a-f]{8}(-[0-9a-f]{4}){3}-[0-9a-f]{3}",
+        "01234567-89ab-cdef-012g-45a",
+        false,
+        false,
+    ),
+    (
+        "[0-9a-f]{8}(-[0-9a-f]{4}){3}-[0-9a-f]{3}",
+        "01234567-89ab-cdef-45a",
+        false,
+        false,
+    ),
+    ("([ab]b|cd|ef)g", "efg", true, true),
+    ("([ab]b|cd)x", "cdx", true, true),
+    ("([ab]b|ac)d", "acd", true, true),
+    ("([ab]b|ac)d", "abe", false, false),
+    ("[ab]c|ad|[b-e]f", "ef", true, true),
+    ("[ab]c|ad|[b-e]f", "bd", false, false),
+    ("(ab|ba){3}", "abbaab", true, true),
+    ("(ab|ba){3}", "abbaa", false, false),
+    ("(ab|ba){3}", "abbaabb", false, true),
+    ("(ab|ba){3,3}", "bababa", true, true),
+    ("(a[0-9]){0}", "", true, true),
+    ("(a[0-9]){0}", "a", false, true),
+    ("(a{2}){2}", "aaaa", true, true),
+    ("(a{2}){2}", "aaa", false, false),
+    ("(a{2}){2}", "aaaaa", false, true),
+    ("(a{0}b){2}", "bb", true, true),
+    ("(a{0}){2}b", "b", true, true),
+    ("((a|b){2}|[cd][^e])f", "cgf", true, true),
+    ("((a|b){2}|[cd][^e])f", "cef", false, false),
+    ("[^0-9]{3}", "aé😀", true, true),
+    ("[^0-9]{3}", "a1b", false, false),
+    ("[à-ü]é{2}", "üéé", true, true),
+    ("[à-ü]é{2}", "aéé", false, false),
+    ("(é|😀).", "😀ü", true, true),
+    ("(é|😀).", "é", false, false),
+    ("..", "é", false, false),
+    (".", "éé", false, true),
+    (r"\p{Lu}{2}[0-9]", "ÄB1", true, true),
+    (r"\p{Lu}{2}[0-9]", "Äb1", false, false),
+    ("()", "", true, true),
+    ("()", "a", false, true),
+    ("()[ab]()", "b", true, true),
+    ("()|[ab]", "b", true, true),
+    ("[ab]|[ab]c", "bc", true, true),
+    ("[ab]{2}|[ab]{3}", "aba", true, true),
+    ("([ab]|[ab]c)d", "bcd", true, true),
+    ("[ab]{1,2}c", "abc", true, true),
+    ("[0-9]{4} ms", "served after 8032 ms", false, true),
+    ("[0-9]{4} ms", "served after 803 ms, 8032 s", false, false),
+    ("[ab]{2}c", "aaabc", false, true),
+    ("[ab]{2}c", "aacb", false, true),
+    ("(é|ü)[0-9]", "éüé7ü", false, true),
+    ("(é|ü)[0-9]", "7éü", false, false),
+    ("[ab]{65}c|[a-c]{66}", "ab", false, false),
+    ("[^b]{2}", "babab", false, false),
+];
+
+#[test]
+fn answers_patterns_of_one_width(rt: HostRuntime) -> Result<(), Fail> {
+    for (pattern, text, whole, part) in &ONE_WIDTH {
+        assert_answers(&rt, rt.alloc(), (pattern, text), (*whole, *part))?;
+    }
+    Ok(())
+}
+
 #[test]
 fn answers_no_branch(rt: HostRuntime) -> Result<(), Fail> {
     let nothing = Pattern::Either(Vec::new(rt.alloc()));

@@ -1,12 +1,11 @@
-use Rattle.std.proofs.Common.{◌≡◌, ◌≤◌, ◌-◌, length, take}
-use Rattle.std.specs.List.{flat_map}
+use Rattle.std.proofs.Common.{◌≡◌, ◌≤◌, ◌-◌, ◌∷◌, [], All, length, take}
 use Rattle.jp_document.specs.Spelling.{spelling}
 use Rattle.jp_document.proofs.spelling.plain_blocks.Given as goal
 
 abbrev pub invariant-lanes : goal.invariant-lanes
 invariant-lanes l = record {
   within : l.plain ≤ length l.text;
-  plain : flat_map (spelling l.quote) (take l.plain l.text) ≡ take l.plain l.text;
+  plain : All (λ b. spelling l.quote b ≡ b ∷ []) (take l.plain l.text);
 }
 
 abbrev pub decreases-lanes : goal.decreases-lanes

@@ -1,13 +1,15 @@
 use Rattle.std.proofs.Common.{◌≡◌, ◌-◌, length}
-use Rattle.jp_evaluate.specs.Private.Walk.{frame_choices, segments_left, turns}
+use Rattle.jp_select.specs.Steps.{Takes}
+use Rattle.jp_evaluate.specs.Private.Walk.{LeadsNowhere, Skips, frame_choices, segments_left, turns}
 use Rattle.jp_evaluate.proofs.walk.frame_offer.Given as goal
 
--- the turns that were passed over had no more choices
+-- the choices that were passed over lead nowhere
 abbrev pub invariant-loop-turn : goal.invariant-loop-turn
 invariant-loop-turn g l = record {
   reached : l.frame.reached ≡ l.fn.frame.reached;
-  same : frame_choices g.V.Lent.meaning l.segments l.frame
-      ≡ frame_choices g.V.Lent.meaning l.segments l.fn.frame;
+  same : Skips LeadsNowhere (frame_choices g.V.Lent.meaning l.segments l.fn.frame)
+      (frame_choices g.V.Lent.meaning l.segments l.frame);
+  taken : Takes l.fn.steps l.steps;
 }
 
 abbrev pub decreases-loop-turn : goal.decreases-loop-turn

@@ -1,15 +1,27 @@
-use Rattle.std.proofs.Common.{take, drop, ◌-◌, refl}
+use Rattle.std.proofs.Common.{◌≡◌, ◌≤◌, ◌+◌, ◌-◌, ◌<◌, true, Some, take, drop, get_or, length, refl, arith}
 use Rattle.json.specs.Token.{number}
-use Rattle.jp_flat.proofs.Punctuated.{gives_literal, is_number}
+use Rattle.json.specs.Word.{after_number}
+use Rattle.jp_flat.proofs.Digits.{sized_there}
+use Rattle.jp_flat.proofs.Punctuated.{gives_literal, is_number, whole_there}
 use Rattle.jp_flat.proofs.lexing.number.Goals as goal
 
 pub returns-clause-gives : goal.returns-clause-gives
 returns-clause-gives c =
     let d = c.args.bytes.now in
     let from = c.args.from in
-    let end = c.in_ok-end.end in
-    let so = c.in_ok-end.ensures in
-    gives_literal d (take (end - from.at) (drop from.at d))
-    (number (take (end - from.at) (drop from.at d))) from c.passed.result end
-    (is_number d from.at end so.within.0 so.whole so.ends) c.requires.begins so.within.0 refl so.ends
-    c.passed.ensures.goes
+    let first = c.past_minus-first.result in
+    let end = c.digits_end-end.result.0 in
+    let some : first < end = grind arith in
+    let room : first < length d = omega (arith, some, c.digits_end-end.ensures.within) in
+    let whole_one : c.is_whole.result ≡ true = grind arith in
+    let zero : get_or d first 0 ≡ 48 → end ≡ first + 1 =
+    λ byte. c.is_whole.ensures.zero whole_one byte in
+    let goes = c.in_ok-point.ensures in
+    let whole : after_number (drop from.at d) ≡ Some (drop end d) =
+    whole_there d from.at first end c.past_minus-first.ensures.minus c.digits_end-end.ensures.end
+    some room zero goes.ends in
+    let within : from.at ≤ end = omega (arith, some, c.past_minus-first.ensures.within) in
+    let s = take (end - from.at) (drop from.at d) in
+    gives_literal d s (number s) from c.in_ok-point.point end
+    (is_number d from.at end within whole goes.ends.word) c.requires.begins within refl goes.ends.word
+    goes.goes

@@ -1,17 +1,26 @@
-use Rattle.std.proofs.Common.{◌≡◌, ◌<◌, true, get_or, length, arith}
+use Rattle.std.proofs.Common.{◌≡◌, ◌∷◌, ◌<◌, ◌∙◌, true, ap, get_or, length, refl, take, arith}
 use Rattle.json.specs.Lex.{may_begin}
 use Rattle.jp_flat.specs.Private.Tokens.{expected_of}
+use Rattle.jp_flat.proofs.Lexed.{first_is}
 use Rattle.jp_flat.proofs.Punctuated.{gives_array, gives_object, is_false, is_null, is_true}
+use Rattle.jp_flat.proofs.Punctuated.{literal-there}
 use Rattle.jp_flat.proofs.lexing.token_at.Goals as goal
 
 pub literal-requires-clause-name : goal.literal-requires-clause-name
-literal-requires-clause-name c = is_true
+literal-requires-clause-name c =
+    literal-there c.args.bytes.now c.args.from.at 4 _ _ (c.if-has_four.ensures.four refl) is_true
 
 pub literal-requires-in-102-clause-name : goal.literal-requires-in-102-clause-name
-literal-requires-in-102-clause-name c = is_false
+literal-requires-in-102-clause-name c =
+    let d = c.args.bytes.now in
+    let room : c.args.from.at < length d = grind arith in
+    literal-there d c.args.from.at 5 _ _
+    (ap (take 5) (first_is d c.args.from.at 102 room c.in-102.is)
+    ∙ ap (λ s. 102 ∷ s) (c.if-has_four-2.ensures.four refl)) is_false
 
 pub literal-requires-in-110-clause-name : goal.literal-requires-in-110-clause-name
-literal-requires-in-110-clause-name c = is_null
+literal-requires-in-110-clause-name c =
+    literal-there c.args.bytes.now c.args.from.at 4 _ _ (c.if-has_four-3.ensures.four refl) is_null
 
 pub returns-in-123-clause-gives : goal.returns-in-123-clause-gives
 returns-in-123-clause-gives c =

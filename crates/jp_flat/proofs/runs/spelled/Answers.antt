@@ -1,5 +1,6 @@
-use Rattle.std.proofs.Common.{◌≡◌, ◌+◌, ◌<◌, get_or, length, ◌∙◌, arith}
-use Rattle.jp_flat.proofs.Lexed.{escaped_text, part_stands, plain_text, run_to, string_ends}
+use Rattle.std.proofs.Common.{◌≡◌, ◌-◌, ◌<◌, get_or, length, sym, ap, ◌∙◌, arith}
+use Rattle.json.specs.Text.{content, plain}
+use Rattle.jp_flat.proofs.Lexed.{end-stands, part_stands, past-quote, plain_text, run_to, string_ends}
 use Rattle.jp_flat.proofs.runs.spelled.Goals as goal
 
 pub returns-then-bytes-end-eq34 : goal.returns-then-bytes-end-eq34
@@ -29,7 +30,7 @@ returns c =
     let range = c.in_ok-quote.ensures.within in
     record {
       within = omega (arith, range.1);
-      stands = tt;
-      reads = λ x e. escaped_text d first (quote + 1) x c.requires.0 (omega (arith, range.0)) (omega (arith, range.1)) e;
+      stands = end-stands d (first - 1) (omega arith);
+      reads = λ x e. sym (ap (content plain) (past-quote d first c.requires.0)) ∙ e;
       passes = c.in_ok-quote.ensures.passes;
     }

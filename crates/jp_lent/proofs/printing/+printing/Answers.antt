@@ -1,6 +1,5 @@
 use Rattle.std.proofs.Common.{◌≡◌, ◌<◌, ◌++◌, ◌∷◌, ◌∙◌, [], append_assoc, arith, cond}
-use Rattle.std.proofs.Common.{drop, eqb, length, rules, string_bytes, subst, sym, ◌+◌}
-use Rattle.std.proofs.lemmas.Grind.{common_steps}
+use Rattle.std.proofs.Common.{OnOk, drop, eqb, length, rules, string_bytes, subst, sym, ◌+◌}
 use Rattle.std.proofs.lemmas.Option.{slice_get_within}
 use Rattle.std.specs.List.{join_with_byte}
 use Rattle.jp_reading.specs.Characters as char
@@ -12,7 +11,7 @@ use Rattle.jp_lent.specs.Lending.{step_with}
 use Rattle.jp_lent.specs.Private.Printing.{name_text, part_text, part_texts}
 use Rattle.jp_lent.proofs.Parts.{joined_more, list-printed, next_part, no_part, nothing_more}
 use Rattle.jp_lent.proofs.Parts.{object-printed, part_more}
-use Rattle.jp_lent.proofs.Weights.{part_within}
+use Rattle.jp_lent.proofs.Weights.{inside_less, part-far-within}
 use Rattle.jp_lent.proofs.printing.+printing.Goals as goal
 
 -- ---- a part
@@ -41,7 +40,7 @@ push_parts-returns-in_err-push_comma-clause-kept g t c =
 
 pub push_parts-push_part-requires : goal.push_parts-push_part-requires
 push_parts-push_part-requires g t c κs within = (
-  part_within (g.V.Lent.meaning c.args.value) c.loop-part.position t
+  part-far-within (g.V.Lent.meaning c.args.value) c.loop-part.position t
       (step_with g.V.Lent.meaning c.in-Some.part) c.in-Some.ensures.entry c.decreases,
   within,
 )
@@ -90,70 +89,56 @@ push_parts-returns-clause-ok g t c =
     (join_with_byte char.comma (part_texts es)) c.loop-part.position _
     (no_part es c.loop-part.position c.in_default.ensures.entry) c.loop-part.invariant.whole
 
+-- ---- parts between marks
+
+pub push_enclosed-returns-in_err-push_parts-clause-kept :
+    goal.push_enclosed-returns-in_err-push_parts-clause-kept
+push_enclosed-returns-in_err-push_parts-clause-kept g t c =
+    let parts = join_with_byte char.comma (part_texts (entries (g.V.Lent.meaning c.args.value))) in
+    after _ (c.args.opening ∷ []) (parts ++ c.args.closing ∷ []) _ _ c.in_ok-push_mark.ensures.ok
+    (first _ parts (c.args.closing ∷ []) _ c.in_err-push_parts.ensures.kept)
+
+pub push_enclosed-returns-clause-kept : goal.push_enclosed-returns-clause-kept
+push_enclosed-returns-clause-kept g t c =
+    let parts = join_with_byte char.comma (part_texts (entries (g.V.Lent.meaning c.args.value))) in
+    between _ parts _ _ _ c.args.opening c.args.closing c.in_ok-push_mark.ensures.ok
+    c.in_ok-push_parts.ensures.ok c.push_mark-2.ensures.kept
+
 -- ---- values
 
-pub push_value-returns-in_err-push_parts-in-List-clause-kept :
-    goal.push_value-returns-in_err-push_parts-in-List-clause-kept
-push_value-returns-in_err-push_parts-in-List-clause-kept g t c =
+pub push_value-push_enclosed-requires : goal.push_value-push_enclosed-requires
+push_value-push_enclosed-requires g t c κs within =
+    let less = inside_less (g.V.Lent.meaning c.args.value) in
+    (omega arith, (within, (omega arith, omega arith)))
+
+pub push_value-push_enclosed-requires-in-Members : goal.push_value-push_enclosed-requires-in-Members
+push_value-push_enclosed-requires-in-Members g t c κs within =
+    let less = inside_less (g.V.Lent.meaning c.args.value) in
+    (omega arith, (within, (omega arith, omega arith)))
+
+pub push_value-returns-in-List-clause-ok : goal.push_value-returns-in-List-clause-ok
+push_value-returns-in-List-clause-ok g t c =
     let v = g.V.Lent.meaning c.args.value in
-    let parts = join_with_byte char.comma (part_texts (entries v)) in
-    let opened : string_bytes c.push.new.self ≡ string_bytes c.args.out.now
-    ++ char.opening_bracket ∷ [] = search rules in
-    subst (λ x. IsPartAppended (string_bytes c.args.out.now) x (string_bytes c.push_parts.new.out))
-    (list-printed v c.in-List.ensures)
-    (after _ (char.opening_bracket ∷ []) (parts ++ char.closing_bracket ∷ []) _ _ opened
-    (first _ parts (char.closing_bracket ∷ []) _ c.in_err-push_parts-in-List.ensures.kept))
+    subst (λ x. OnOk c.push_enclosed.result
+    (string_bytes c.push_enclosed.new.out ≡ string_bytes c.args.out.now ++ x))
+    (list-printed v c.in-List.ensures) c.push_enclosed.ensures.ok
 
-pub push_value-returns-in_ok-push_parts-in-List-clause-ok :
-    goal.push_value-returns-in_ok-push_parts-in-List-clause-ok
-push_value-returns-in_ok-push_parts-in-List-clause-ok g t c =
-    let shape = list-printed (g.V.Lent.meaning c.args.value) c.in-List.ensures in
-    grind (arith, common_steps, shape)
-
-pub push_value-returns-in_ok-push_parts-in-List-clause-kept :
-    goal.push_value-returns-in_ok-push_parts-in-List-clause-kept
-push_value-returns-in_ok-push_parts-in-List-clause-kept g t c =
+pub push_value-returns-in-List-clause-kept : goal.push_value-returns-in-List-clause-kept
+push_value-returns-in-List-clause-kept g t c =
     let v = g.V.Lent.meaning c.args.value in
-    let parts = join_with_byte char.comma (part_texts (entries v)) in
-    let opened : string_bytes c.push.new.self ≡ string_bytes c.args.out.now
-    ++ char.opening_bracket ∷ [] = search rules in
-    let written : string_bytes c.push_parts.new.out ≡ string_bytes c.push.new.self ++ parts =
-    search rules in
-    let closed : IsPartAppended (string_bytes c.push_parts.new.out) (char.closing_bracket ∷ [])
-    (string_bytes c.push-in-List.new.self) = search rules in
-    subst (λ x. IsPartAppended (string_bytes c.args.out.now) x (string_bytes c.push-in-List.new.self))
-    (list-printed v c.in-List.ensures)
-    (between _ parts _ _ _ char.opening_bracket char.closing_bracket opened written closed)
+    subst (λ x. IsPartAppended (string_bytes c.args.out.now) x (string_bytes c.push_enclosed.new.out))
+    (list-printed v c.in-List.ensures) c.push_enclosed.ensures.kept
 
-pub push_value-returns-in_err-push_parts-in-Members-clause-kept :
-    goal.push_value-returns-in_err-push_parts-in-Members-clause-kept
-push_value-returns-in_err-push_parts-in-Members-clause-kept g t c =
+pub push_value-returns-in-Members-clause-ok : goal.push_value-returns-in-Members-clause-ok
+push_value-returns-in-Members-clause-ok g t c =
     let v = g.V.Lent.meaning c.args.value in
-    let parts = join_with_byte char.comma (part_texts (entries v)) in
-    let opened : string_bytes c.push-in-Members.new.self ≡ string_bytes c.args.out.now
-    ++ char.opening_brace ∷ [] = search rules in
-    subst (λ x. IsPartAppended (string_bytes c.args.out.now) x (string_bytes c.push_parts-in-Members.new.out))
-    (object-printed v c.in-Members.ensures)
-    (after _ (char.opening_brace ∷ []) (parts ++ char.closing_brace ∷ []) _ _ opened
-    (first _ parts (char.closing_brace ∷ []) _ c.in_err-push_parts-in-Members.ensures.kept))
+    subst (λ x. OnOk c.push_enclosed-in-Members.result
+    (string_bytes c.push_enclosed-in-Members.new.out ≡ string_bytes c.args.out.now ++ x))
+    (object-printed v c.in-Members.ensures) c.push_enclosed-in-Members.ensures.ok
 
-pub push_value-returns-in_ok-push_parts-in-Members-clause-ok :
-    goal.push_value-returns-in_ok-push_parts-in-Members-clause-ok
-push_value-returns-in_ok-push_parts-in-Members-clause-ok g t c =
-    let shape = object-printed (g.V.Lent.meaning c.args.value) c.in-Members.ensures in
-    grind (arith, common_steps, shape)
-
-pub push_value-returns-in_ok-push_parts-in-Members-clause-kept :
-    goal.push_value-returns-in_ok-push_parts-in-Members-clause-kept
-push_value-returns-in_ok-push_parts-in-Members-clause-kept g t c =
+pub push_value-returns-in-Members-clause-kept : goal.push_value-returns-in-Members-clause-kept
+push_value-returns-in-Members-clause-kept g t c =
     let v = g.V.Lent.meaning c.args.value in
-    let parts = join_with_byte char.comma (part_texts (entries v)) in
-    let opened : string_bytes c.push-in-Members.new.self ≡ string_bytes c.args.out.now
-    ++ char.opening_brace ∷ [] = search rules in
-    let written : string_bytes c.push_parts-in-Members.new.out ≡ string_bytes c.push-in-Members.new.self ++ parts =
-    search rules in
-    let closed : IsPartAppended (string_bytes c.push_parts-in-Members.new.out) (char.closing_brace ∷ [])
-    (string_bytes c.push-in-Members-2.new.self) = search rules in
-    subst (λ x. IsPartAppended (string_bytes c.args.out.now) x (string_bytes c.push-in-Members-2.new.self))
-    (object-printed v c.in-Members.ensures)
-    (between _ parts _ _ _ char.opening_brace char.closing_brace opened written closed)
+    subst (λ x. IsPartAppended (string_bytes c.args.out.now) x
+    (string_bytes c.push_enclosed-in-Members.new.out))
+    (object-printed v c.in-Members.ensures) c.push_enclosed-in-Members.ensures.kept

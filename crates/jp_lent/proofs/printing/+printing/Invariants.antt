@@ -9,13 +9,16 @@ use Rattle.jp_lent.proofs.Weights.{weight, weight_inside}
 use Rattle.jp_lent.proofs.printing.+printing.Given as goal
 
 abbrev pub decreases-push_value : goal.decreases-push_value
-decreases-push_value g l = weight (g.V.Lent.meaning l.value)
+decreases-push_value g l = suc (weight (g.V.Lent.meaning l.value))
+
+abbrev pub decreases-push_enclosed : goal.decreases-push_enclosed
+decreases-push_enclosed g l = suc (weight_inside (g.V.Lent.meaning l.value))
 
 abbrev pub decreases-push_parts : goal.decreases-push_parts
 decreases-push_parts g l = weight_inside (g.V.Lent.meaning l.value)
 
 abbrev pub decreases-push_part : goal.decreases-push_part
-decreases-push_part g l = suc (weight (g.V.Lent.meaning l.part.1))
+decreases-push_part g l = suc (suc (weight (g.V.Lent.meaning l.part.1)))
 
 -- what stands there is a beginning of the whole, and with the parts to come it is the whole
 abbrev pub invariant-push_parts-loop-part : goal.invariant-push_parts-loop-part

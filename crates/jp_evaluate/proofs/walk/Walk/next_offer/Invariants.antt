@@ -1,13 +1,15 @@
 use Rattle.std.proofs.Common.{◌≡◌, None, length}
-use Rattle.jp_evaluate.specs.Private.Walk.{Keeps, pending, walk_frames}
+use Rattle.jp_select.specs.Steps.{Takes}
+use Rattle.jp_evaluate.specs.Private.Walk.{LeadsNowhereAt, Keeps, Skips, pending, walk_frames}
 use Rattle.jp_evaluate.proofs.walk.Walk.next_offer.Given as goal
 
--- the frames that were taken off had no more choices
+-- the frames that were taken off had no more choices that lead somewhere
 abbrev pub invariant-loop-self : goal.invariant-loop-self
 invariant-loop-self g l = record {
   begun : l.self.first ≡ None;
   keeps : Keeps l.fn.self l.self;
-  same : pending g.V.Lent.meaning l.segments l.self ≡ pending g.V.Lent.meaning l.segments l.fn.self;
+  same : Skips LeadsNowhereAt (pending g.V.Lent.meaning l.segments l.fn.self) (pending g.V.Lent.meaning l.segments l.self);
+  taken : Takes l.fn.steps l.steps;
 }
 
 abbrev pub decreases-loop-self : goal.decreases-loop-self
