@@ -7,7 +7,9 @@ use std::alloc::{AllocError, Global};
 use std::test::Fail;
 
 /// A text between its quotes in a document, and what it holds, as compact text between quotes.
-const TEXTS: [(&str, &str); 46] = [
+type Row = (&'static str, &'static str);
+
+const TEXTS: [Row; 46] = [
     // each escape alone
     (r#"\""#, r#"\""#),
     (r"\\", r"\\"),
@@ -109,28 +111,77 @@ fn flat_text(alloc: Global, text: &str) -> Result<Option<String>, AllocError> {
     }
 }
 
+/// A text between quotes.
+fn quoted(alloc: Global, text: &str) -> Result<String, AllocError> {
+    format!(in alloc; "\"{text}\"")
+}
+
+/// A document in which a text stands among other values.
+fn among_values(alloc: Global, text: &str) -> Result<String, AllocError> {
+    format!(in alloc; "[\"{text}\",\"a\",{{\"b\":\"{text}\"}},1]")
+}
+
+/// A document in which a text is the name of a member, before one that has no character in its name.
+fn before_no_name(alloc: Global, text: &str) -> Result<String, AllocError> {
+    format!(in alloc; "{{\"{text}\":[1],\"\":2}}")
+}
+
+/// These members in the order of their names.
+fn behind_no_name(alloc: Global, text: &str) -> Result<String, AllocError> {
+    format!(in alloc; "{{\"\":2,\"{text}\":[1]}}")
+}
+
+/// A document in which a text is the name of a member.
+fn as_name(alloc: Global, text: &str) -> Result<String, AllocError> {
+    format!(in alloc; "{{\"{text}\":1}}")
+}
+
+/// Whether a document is printed so.
+fn is_printed(alloc: Global, document: &str, wanted: &str) -> Result<bool, AllocError> {
+    match flat_text(alloc, document)? {
+        Some(text) => Ok(text.as_str() == wanted),
+        None => Ok(false),
+    }
+}
+
+/// Whether a text is read as it must be where it is the document, and where it stands in one.
+fn is_read_as_value(alloc: Global, row: &Row) -> Result<bool, AllocError> {
+    let alone = quoted(alloc, row.0)?;
+    let wanted = quoted(alloc, row.1)?;
+    if !is_printed(alloc, alone.as_str(), wanted.as_str())? {
+        return Ok(false);
+    }
+    let among = among_values(alloc, row.0)?;
+    let wanted = among_values(alloc, row.1)?;
+    is_printed(alloc, among.as_str(), wanted.as_str())
+}
+
+/// Whether a text is read as it must be where it is a name.
+fn is_read_as_name(alloc: Global, row: &Row) -> Result<bool, AllocError> {
+    let object = before_no_name(alloc, row.0)?;
+    let wanted = behind_no_name(alloc, row.1)?;
+    is_printed(alloc, object.as_str(), wanted.as_str())
+}
+
+/// Whether a text is refused where it is a value and where it is a name.
+fn is_refused(alloc: Global, spelled: &str) -> Result<bool, AllocError> {
+    let value = quoted(alloc, spelled)?;
+    let name = as_name(alloc, spelled)?;
+    Ok(flat_text(alloc, value.as_str())?.is_none() && flat_text(alloc, name.as_str())?.is_none())
+}
+
 #[test]
 fn values_with_escapes(rt: HostRuntime) -> Result<(), Fail> {
-    for (spelled, wanted) in TEXTS {
-        let alone = format!(in rt.alloc(); "\"{spelled}\"")?;
-        let wanted_alone = format!(in rt.alloc(); "\"{wanted}\"")?;
-        let text = flat_text(rt.alloc(), alone.as_str())?;
-        assert_eq!(rt; text.as_deref(), Some(wanted_alone.as_str()), "{spelled}");
-        let among = format!(in rt.alloc(); "[\"{spelled}\",\"a\",{{\"b\":\"{spelled}\"}},1]")?;
-        let wanted_among = format!(in rt.alloc(); "[\"{wanted}\",\"a\",{{\"b\":\"{wanted}\"}},1]")?;
-        let text = flat_text(rt.alloc(), among.as_str())?;
-        assert_eq!(rt; text.as_deref(), Some(wanted_among.as_str()), "{spelled}");
+    for row in &TEXTS {
+        assert!(rt; is_read_as_value(rt.alloc(), row)?, "{}", row.0);
     }
     Ok(())
 }
 
 #[test]
 fn names_with_escapes(rt: HostRuntime) -> Result<(), Fail> {
-    for (spelled, wanted) in TEXTS {
-        let object = format!(in rt.alloc(); "{{\"{spelled}\":[1],\"\":2}}")?;
-        let wanted = format!(in rt.alloc(); "{{\"\":2,\"{wanted}\":[1]}}")?;
-        let text = flat_text(rt.alloc(), object.as_str())?;
-        assert_eq!(rt; text.as_deref(), Some(wanted.as_str()), "{spelled}");
+    for row in &TEXTS {
+        assert!(rt; is_read_as_name(rt.alloc(), row)?, "{}", row.0);
     }
     Ok(())
 }
@@ -153,13 +204,8 @@ fn a_name_with_escapes_is_found(rt: HostRuntime) -> Result<(), Fail> {
 
 #[test]
 fn wrong_escapes(rt: HostRuntime) -> Result<(), Fail> {
-    for spelled in WRONG {
-        let value = format!(in rt.alloc(); "[1,\"{spelled}\",2]")?;
-        let text = flat_text(rt.alloc(), value.as_str())?;
-        assert_eq!(rt; text, None, "{spelled}");
-        let name = format!(in rt.alloc(); "{{\"{spelled}\":1}}")?;
-        let text = flat_text(rt.alloc(), name.as_str())?;
-        assert_eq!(rt; text, None, "{spelled}");
+    for spelled in &WRONG {
+        assert!(rt; is_refused(rt.alloc(), spelled)?, "{spelled}");
     }
     Ok(())
 }
