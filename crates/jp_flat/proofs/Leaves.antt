@@ -1,12 +1,13 @@
 -- What single tokens are read as: for `leaf` and `number`.
 use Rattle.std.proofs.Common.{◌≡◌, ◌-◌, ◌<◌, ℕ, zero, suc, Bool, List, [], ◌∷◌, Some, length}
-use Rattle.std.proofs.Common.{option_map, refl, sym, ap, subst, ◌∙◌, arith, false, pos, negsuc, ℤ}
+use Rattle.std.proofs.Common.{option_map, refl, sym, ap, subst, ◌∙◌, arith, false, true, pos, negsuc, ℤ}
 use Rattle.std.proofs.Common.{◌^◌, ◌&&◌, nat_lt, None}
 use Rattle.std.specs.Str.Parse.{AllDigits, digits_value}
 use Rattle.std.proofs.lemmas.Bool.{and_from, cond-true, lt-ltb}
 use Rattle.std.proofs.lemmas.Bool.Decides.{nat_tests}
 use Rattle.std.proofs.lemmas.Float.Parse.{scan_numeral-text_of}
 use Rattle.std.proofs.lemmas.List.{append-nil}
+use Rattle.std.proofs.lemmas.Option.{same_Some}
 use Rattle.std.proofs.lemmas.Str.Parse.{digit_at}
 use Rattle.fast_float.specs.Text.{IsWellFormed, Parts, digits_of, scan, text_of}
 use Rattle.json.specs.Json as json
@@ -22,7 +23,9 @@ use Rattle.jp_document.specs.Value.{Value, null, boolean, text, whole, list, obj
 use Rattle.jp_document.specs.Value.{items_of, members_of}
 use Rattle.jp_reading.proofs.Conjunctions.{and-both}
 use Rattle.jp_flat.proofs.Rounds.{converted-map, from_zero_text, one_token}
+use Rattle.jp_flat.specs.Asked.{is_leaf}
 use Rattle.jp_flat.specs.Flat.{Shown, flat_value, number_of, text_at}
+use Rattle.jp_flat.specs.Private.Kept.{IsBare}
 use Rattle.jp_flat.specs.Private.Reading.{ReadsLeaf, IsWholeItem, ReadsFlat, ReadsFlatItems}
 use Rattle.jp_flat.specs.Private.Reading.{ReadsFlatMembers, with_items}
 use Rattle.jp_flat.specs.declared.item.Halves.{Halves}
@@ -59,6 +62,12 @@ pub below_means : (n : ℕ) (t : Shown) (h : Halves)
 unfolding flat_value
 below_means zero t h = refl
 below_means (suc n) t h = refl
+
+-- nothing can be inside the one value that an item has
+pub bare-by : (t : Shown) (i : Item) (w : Value) → ((n : ℕ) → flat_value n t i ≡ Some w)
+    → is_leaf w ≡ true → IsBare t i
+bare-by t i w means leaf =
+    λ n v is. subst (λ u. is_leaf u ≡ true) (same_Some w v (sym (means n) ∙ is)) leaf
 
 -- ---- whole numbers
 

@@ -1,5 +1,6 @@
 -- The files of lemmas. `pub` are those that proofs of other crates may name.
 pub mod Ahead
+pub mod Begun
 pub mod Blocks
 pub mod ByKeys
 pub mod Digits
@@ -9,6 +10,7 @@ pub mod Fronts
 pub mod Growth
 pub mod Inserting
 pub mod Inside
+pub mod KeptDocuments
 pub mod Leaves
 pub mod Lexed
 pub mod Lookups
@@ -16,10 +18,16 @@ pub mod Loops
 pub mod Moved
 pub mod Names
 pub mod Owned
+pub mod Picked
+pub mod PickedParts
+pub mod PickedValues
 pub mod Planted
 pub mod Punctuated
 pub mod Putting
 pub mod Rounds
 pub mod Searched
 pub mod Sunk
+pub mod Thinned
+pub mod ThinnedItems
+pub mod ThinnedMembers
 pub mod Undone

@@ -3,7 +3,7 @@ use Rattle.std.proofs.Common.{◌≡◌, ℕ, ◌+◌, ◌-◌, ◌<◌, ◌≤�
 use Rattle.std.proofs.Common.{[]}
 use Rattle.std.proofs.Common.{◌∷◌, ◌++◌, ◌⊎◌, inl, inr, length, take, drop, get_or, Option, Some}
 use Rattle.std.proofs.Common.{None}
-use Rattle.std.proofs.Common.{nat_le, option_and_then, unwrap_or, refl, sym, ap, ◌∙◌, subst, arith}
+use Rattle.std.proofs.Common.{option_and_then, refl, sym, ap, ◌∙◌, subst, arith}
 use Rattle.std.proofs.lemmas.Bool.{eqb-true, ne_eqb, or_cases}
 use Rattle.std.proofs.lemmas.List.{drop_all, drop-drop, take-append-drop}
 use Rattle.std.specs.Char.{is_ascii_digit}
@@ -18,7 +18,6 @@ use Rattle.json.specs.Token as spec
 use Rattle.json.specs.Word.{after_digits, after_exponent, after_fraction, after_minus, after_number}
 use Rattle.json.specs.Word.{after_whole, ends_word, is_space, word}
 use Rattle.json.proofs.Printed.Numbers.{in_word-ended, lex-number, number_alone}
-use Rattle.jp_flat.specs.Flat.{piece}
 use Rattle.jp_flat.specs.Private.Tokens.{EndsWhole, GivesToken, IsLiteral, IsSpelledFrom, ends_byte}
 use Rattle.jp_flat.specs.Private.Tokens.{key_token}
 use Rattle.jp_flat.specs.Private.Tokens.{said, tokens_from, expected_of}

@@ -26,7 +26,7 @@ parts-same r s (Some y) b e =
     let same = some_pair_parts y b r s e in (same.1, ap Some same.0)
 
 -- what was parsed before it was converted
-parsed_before : {A B : Type 0} (f : A → Option B) (o : Option (A × List Token)) (b : B)
+pub parsed_before : {A B : Type 0} (f : A → Option B) (o : Option (A × List Token)) (b : B)
     (r : List Token) → converted f o ≡ Some (b, r) → (a : A) × (o ≡ Some (a, r)) × (f a ≡ Some b)
 parsed_before f None b r e = absurd (cc)
 parsed_before f (Some p) b r e =

@@ -1,4 +1,5 @@
 -- The files of definitions.
+pub mod Asked
 pub mod Flat
 pub mod FlatValue
 pub mod Private

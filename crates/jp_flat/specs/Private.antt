@@ -5,6 +5,7 @@ pub mod Found
 pub mod FromTokens
 pub mod Fronts
 pub mod Integer
+pub mod Kept
 pub mod Keys
 pub mod Parts
 pub mod Reading

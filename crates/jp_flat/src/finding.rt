@@ -39,6 +39,8 @@ pub(crate) fn find(
     ensures finds { IfSome result (FindsAt depth reader.old.tokens reader.new.tokens (shown tables.new)
         (location_of location.entry)) }
     ensures grows { OnSome result (Grows (shown tables.old) (shown tables.new)) }
+    ensures items { OnSome result (pending.new.items.items ≡ pending.old.items.items) }
+    ensures members { OnSome result (pending.new.members.items ≡ pending.old.members.items) }
     ensures shorter { OnSome result (length reader.new.tokens < length reader.old.tokens) }
     ensures text { reader.new.text ≡ reader.old.text }
 {
@@ -69,6 +71,8 @@ fn find_inside(
     ensures finds { IfSome result (FindsAt depth reader.old.tokens reader.new.tokens (shown tables.new)
         (option_map whole_location sought.entry)) }
     ensures grows { OnSome result (Grows (shown tables.old) (shown tables.new)) }
+    ensures items { OnSome result (pending.new.items.items ≡ pending.old.items.items) }
+    ensures members { OnSome result (pending.new.members.items ≡ pending.old.members.items) }
     ensures shorter { OnSome result (length reader.new.tokens < length reader.old.tokens) }
     ensures text { reader.new.text ≡ reader.old.text }
 {
@@ -102,6 +106,8 @@ fn find_item(
     ensures finds { IfSome result (FindsItem depth reader.old.tokens reader.new.tokens
         (shown tables.new) (option_map whole_location sought.entry)) }
     ensures grows { OnSome result (Grows (shown tables.old) (shown tables.new)) }
+    ensures items { OnSome result (pending.new.items.items ≡ pending.old.items.items) }
+    ensures members { OnSome result (pending.new.members.items ≡ pending.old.members.items) }
     ensures shorter { OnSome result (length reader.new.tokens < length reader.old.tokens) }
     ensures text { reader.new.text ≡ reader.old.text }
 {
@@ -130,6 +136,8 @@ fn find_member(
     ensures finds { IfSome result (FindsMember depth reader.old.tokens reader.new.tokens
         (shown tables.new) (option_map whole_location sought.entry)) }
     ensures grows { OnSome result (Grows (shown tables.old) (shown tables.new)) }
+    ensures items { OnSome result (pending.new.items.items ≡ pending.old.items.items) }
+    ensures members { OnSome result (pending.new.members.items ≡ pending.old.members.items) }
     ensures shorter { OnSome result (length reader.new.tokens < length reader.old.tokens) }
     ensures text { reader.new.text ≡ reader.old.text }
 {

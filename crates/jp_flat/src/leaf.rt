@@ -3,6 +3,7 @@
 ghost use Rattle.std.specs.Prelude.{◌≡◌, ◌<◌, ◌∷◌, IfSome, OnSome, length, true};
 ghost use Rattle.json.specs.Align.{is_good};
 ghost use Rattle.jp_flat.specs.Flat.{Grows, shown};
+ghost use Rattle.jp_flat.specs.Private.Kept.{IsBare};
 ghost use Rattle.jp_flat.specs.Private.Reading.{ReadsLeaf, ReadsLeaves};
 ghost use Rattle.jp_flat.specs.Private.Tokens.{TokenHolds, token_of};
 
@@ -40,6 +41,7 @@ pub(crate) fn leaves<'a>(tables: &mut Tables<'_>, reader: &mut Cursor<'a>) -> Op
 pub(crate) fn leaf(tables: &mut Tables<'_>, token: Token<'_>) -> Option<Item>
     requires { TokenHolds tables.old.text.now token }
     ensures leaf { IfSome result (ReadsLeaf (token_of token.entry) (shown tables.new)) }
+    ensures bare { IfSome result (IsBare (shown tables.new)) }
     ensures good { OnSome result (is_good (token_of token.entry) ≡ true) }
     ensures grows { OnSome result (Grows (shown tables.old) (shown tables.new)) }
     ensures items { OnSome result (tables.new.items.items ≡ tables.old.items.items) }

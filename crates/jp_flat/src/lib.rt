@@ -2,21 +2,25 @@
 //! less memory.
 //!
 //! `flat_document` reads one, `Flat::value` is its value, and a `FlatValue` is a `Lent` one. A `Room`
-//! takes the memory from one document to the next, and `flat_value_at` reads a document for the one
-//! value at a location:
+//! takes the memory from one document to the next, `flat_value_at` reads a document for the one value
+//! at a location, and `flat_asked` for what a query asks of it:
 //!
 //! ```text
 //! let flat = flat_document(alloc, b"{\"a\":[1,2]}")?;
 //! let (_, list) = flat.value().member("a")?;     // [1,2]
 //! let flat = flat.into_room().read(b"[3]")?;     // the next one, in the same memory
 //! let found = flat_value_at(alloc, b"{\"a\":[1,2]}", &[Step::Name("a"), Step::Index(0)])?;    // 1
+//! let asked = AskedFor::OfItems(vec![in alloc; "a"]?);
+//! let flat = flat_asked(alloc, b"[{\"a\":1,\"b\":2}]", &asked)?;      // [{"a":1}]
 //! ```
 //!
-//! For the layer above: what is read is a document, with its value in `specs/FlatValue.antt`, and
-//! each call at a value answers as at a `DocumentValue`. Where nothing is read, nothing is said of
-//! the bytes: `jp_held`, above this crate, tells what is wrong with them.
+//! For the layer above: what is read is a document, with its value in `specs/FlatValue.antt`, or what
+//! is kept of it in `specs/AskedFor.antt`, and each call at a value answers as at a `DocumentValue`. Where
+//! nothing is read, nothing is said of the bytes: `jp_held`, above this crate, tells what is wrong with
+//! them.
 #![tactic(auto)]
 
+mod asked;
 mod blanks;
 mod closing;
 mod cursor;
@@ -34,6 +38,7 @@ mod moving;
 mod number;
 mod of_tree;
 mod parts;
+mod picking;
 mod reading;
 mod rising;
 mod runs;
@@ -41,9 +46,11 @@ mod sinking;
 mod sorting;
 mod spans;
 mod tables;
+mod thinning;
 mod token;
 mod value_at;
 
+pub use asked::{AskedFor, flat_asked};
 pub use flat::{Flat, Found, Room, flat_document};
 pub use flat_value::FlatValue;
 pub use value_at::{flat_value_at, found_value};

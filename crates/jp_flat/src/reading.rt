@@ -1,11 +1,11 @@
 //! Values from the tokens of a text, into tables. What is no document, and what fits no table, is
 //! left to others.
 
-ghost use Rattle.std.specs.Prelude.{◌≡◌, ◌<◌, ◌∷◌, [], IfSome, OnSome, length, true};
+ghost use Rattle.std.specs.Prelude.{◌≡◌, ◌≤◌, ◌<◌, ◌∷◌, [], IfSome, OnSome, length, true};
 ghost use Rattle.json.specs.Align.{is_good};
 ghost use Rattle.jp_flat.specs.Flat.{Grows, shown};
 ghost use Rattle.jp_flat.specs.Private.Reading.{ReadsFlat, ReadsFlatItems, ReadsFlatMembers};
-ghost use Rattle.jp_flat.specs.Private.Tokens.{token_of};
+ghost use Rattle.jp_flat.specs.Private.Tokens.{TokenHolds, token_of};
 
 use crate::closing::{close_list, close_object, list_from};
 use crate::cursor::Cursor;
@@ -73,16 +73,71 @@ pub(crate) fn lone_value(
     requires { reader.old.text ≡ tables.old.text.now }
     ensures reads { IfSome result (λ i. ReadsFlat depth reader.old.tokens reader.new.tokens (shown tables.new) i) }
     ensures grows { OnSome result (Grows (shown tables.old) (shown tables.new)) }
+    ensures items { OnSome result (pending.new.items.items ≡ pending.old.items.items) }
+    ensures members { OnSome result (pending.new.members.items ≡ pending.old.members.items) }
     ensures shorter { OnSome result (length reader.new.tokens < length reader.old.tokens) }
     ensures text { reader.new.text ≡ reader.old.text }
 {
     value(tables, pending, reader, depth)
 }
 
+/// The list or the object that begins with a token, one that is read apart from the others.
+#[inline(never)]
+pub(crate) fn lone_container(
+    tables: &mut Tables<'_>,
+    pending: &mut Pending,
+    reader: &mut Cursor<'_>,
+    depth: usize,
+    token: Token<'_>,
+) -> Option<Item>
+    requires { reader.old.text ≡ tables.old.text.now }
+    ensures reads { IfSome result (λ i. ReadsFlat depth (token_of token.entry ∷ reader.old.tokens)
+        reader.new.tokens (shown tables.new) i) }
+    ensures grows { OnSome result (Grows (shown tables.old) (shown tables.new)) }
+    ensures items { OnSome result (pending.new.items.items ≡ pending.old.items.items) }
+    ensures members { OnSome result (pending.new.members.items ≡ pending.old.members.items) }
+    ensures shorter { OnSome result (length reader.new.tokens < length reader.old.tokens) }
+    ensures text { reader.new.text ≡ reader.old.text }
+{
+    container(tables, pending, reader, depth, token)
+}
+
+/// The value that begins with a token, one that is read apart from the others.
+#[inline(always)]
+pub(crate) fn value_behind(
+    tables: &mut Tables<'_>,
+    pending: &mut Pending,
+    reader: &mut Cursor<'_>,
+    depth: usize,
+    token: Token<'_>,
+) -> Option<Item>
+    requires text { reader.old.text ≡ tables.old.text.now }
+    requires stands { TokenHolds tables.old.text.now token }
+    ensures reads { IfSome result (λ i. ReadsFlat depth (token_of token.entry ∷ reader.old.tokens)
+        reader.new.tokens (shown tables.new) i) }
+    ensures good { OnSome result (is_good (token_of token.entry) ≡ true) }
+    ensures grows { OnSome result (Grows (shown tables.old) (shown tables.new)) }
+    ensures items { OnSome result (pending.new.items.items ≡ pending.old.items.items) }
+    ensures members { OnSome result (pending.new.members.items ≡ pending.old.members.items) }
+    ensures shorter { OnSome result (length reader.new.tokens ≤ length reader.old.tokens) }
+    ensures text { reader.new.text ≡ reader.old.text }
+{
+    match token {
+        Token::BeginArray | Token::BeginObject => {
+            let item = lone_container(tables, pending, reader, depth, token)?;
+            Some(item)
+        }
+        _ => {
+            let item = leaf(tables, token)?;
+            Some(item)
+        }
+    }
+}
+
 /// Reads one value, with its parts into the tables.
 #[cycle(reading)]
 #[inline(always)]
-fn value(
+pub(crate) fn value(
     tables: &mut Tables<'_>,
     pending: &mut Pending,
     reader: &mut Cursor<'_>,

@@ -1,4 +1,4 @@
-use Rattle.std.proofs.Common.{◌≡◌, ◌∷◌, ◌<◌, Some, None, arith, length, rules, subst}
+use Rattle.std.proofs.Common.{◌≡◌, ◌∷◌, ◌<◌, ◌∙◌, Some, None, arith, length, refl, rules, subst}
 use Rattle.json.specs.Json.{after_end_array, read_key}
 use Rattle.json.specs.Token.{Token}
 use Rattle.json.proofs.Grammar.{read_key-shorter}
@@ -41,6 +41,8 @@ find_inside-returns-in_ok-leaf-in_default-clause-finds t c =
 pub find_item-items-init : goal.find_item-items-init
 find_item-items-init t c = record {
   so = items_begin c.args.depth c.args.reader.now.tokens (shown c.args.tables.now) c.args.sought;
+  items = refl;
+  members = refl;
   text = search rules;
 }
 
@@ -61,6 +63,8 @@ find_item-items-preserved t c =
           (items_more c.args.depth c.args.reader.now.tokens l.reader.tokens r (shown c.args.tables.now)
           (shown l.tables) w c.args.sought l.index here l.found i c.in_ok-index.ensures.0
           c.item_sought-inside.ensures less done.grows read l.invariant.so));
+      items = done.items ∙ l.invariant.items;
+      members = done.members ∙ l.invariant.members;
       text = search rules;
     }
 
@@ -74,6 +78,8 @@ find_item-returns-clause-finds t c =
 pub find_member-members-init : goal.find_member-members-init
 find_member-members-init t c = record {
   so = members_begin c.args.depth c.args.reader.now.tokens (shown c.args.tables.now) c.args.sought;
+  items = refl;
+  members = refl;
   text = search rules;
 }
 
@@ -99,6 +105,8 @@ find_member-members-preserved t c =
           (shown c.args.tables.now) (shown l.tables) w (shown c.find.new.tables) c.args.sought k here
           l.found i named sought.is shorter c.in_ok-inside.ensures.grows done.grows done.finds
           l.invariant.so);
+      items = done.items ∙ l.invariant.items;
+      members = done.members ∙ l.invariant.members;
       text = search rules;
     }
 

@@ -19,6 +19,8 @@ abbrev pub invariant-find_item-items : goal.invariant-find_item-items
 invariant-find_item-items l = record {
   so : ItemsFound l.depth l.initial.reader.tokens l.reader.tokens (shown l.initial.tables) (shown l.tables)
       l.sought l.index l.found;
+  items : l.pending.items.items ≡ l.initial.pending.items.items;
+  members : l.pending.members.items ≡ l.initial.pending.members.items;
   text : (l.reader.text ≡ l.tables.text.now) × (l.reader.text ≡ l.initial.reader.text);
 }
 
@@ -29,6 +31,8 @@ abbrev pub invariant-find_member-members : goal.invariant-find_member-members
 invariant-find_member-members l = record {
   so : MembersFound l.depth l.initial.reader.tokens l.reader.tokens (shown l.initial.tables) (shown l.tables)
       l.sought l.found;
+  items : l.pending.items.items ≡ l.initial.pending.items.items;
+  members : l.pending.members.items ≡ l.initial.pending.members.items;
   text : (l.reader.text ≡ l.tables.text.now) × (l.reader.text ≡ l.initial.reader.text);
 }
 

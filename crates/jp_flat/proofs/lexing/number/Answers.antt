@@ -1,7 +1,6 @@
 use Rattle.std.proofs.Common.{◌≡◌, ◌≤◌, ◌+◌, ◌-◌, ◌<◌, true, Some, take, drop, get_or, length, refl, arith}
 use Rattle.json.specs.Token.{number}
 use Rattle.json.specs.Word.{after_number}
-use Rattle.jp_flat.proofs.Digits.{sized_there}
 use Rattle.jp_flat.proofs.Punctuated.{gives_literal, is_number, whole_there}
 use Rattle.jp_flat.proofs.lexing.number.Goals as goal
 

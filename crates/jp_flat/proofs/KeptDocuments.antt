@@ -1,0 +1,63 @@
+-- What is kept of a whole text that is a document: for `flat_asked`.
+use Rattle.std.proofs.Common.{◌≡◌, ℕ, true, List, [], IsUtf8, inl, inr, is_some, refl, sym, ap, subst}
+use Rattle.std.proofs.Common.{unwrap_or, ◌∙◌}
+use Rattle.json.specs.Lex.{tokens}
+use Rattle.jp_document.specs.Value.{IsDocumentValue, Value, null}
+use Rattle.jp_reading.proofs.Conjunctions.{and-both}
+use Rattle.jp_flat.specs.Asked.{IsKept, IsReadFor, IsThinned, is_listed}
+use Rattle.jp_flat.specs.Flat.{Shown, is_flat, meaning, most_levels, shown}
+use Rattle.jp_flat.specs.Private.Kept.{KeepsFlat, KeepsFlatText}
+use Rattle.jp_flat.specs.declared.asked.AskedFor.{AskedFor}
+use Rattle.jp_flat.specs.declared.asked.AskedFor.TheVariants.{Anywhere, OfItems}
+use Rattle.jp_flat.specs.declared.flat.Flat.{Flat}
+use Rattle.jp_flat.specs.declared.item.Item.{Item}
+use Rattle.jp_flat.proofs.Ahead.{document_from_text}
+use Rattle.jp_flat.proofs.Picked.{picked-allowed}
+use Rattle.jp_flat.proofs.Rounds.{reads-all}
+use Rattle.jp_flat.proofs.Thinned.{allowed-thinned}
+
+-- all of a value may be kept
+pub kept-whole : (asked : AskedFor) (v : Value) → IsKept asked v v
+kept-whole (OfItems names) v = inl refl
+kept-whole (Anywhere name) v = IsThinned.all v
+
+pub kept-text : (asked : AskedFor) (s : List ℕ) (t : Shown) (i : Item)
+    → KeepsFlat (IsKept asked) most_levels (tokens s) [] t i → KeepsFlatText asked s t i
+kept-text asked s t i x = record {
+  value = x.value;
+  kept = x.kept;
+  reads = reads-all s x.value x.reads;
+  short = x.short;
+  keeps = x.keeps;
+  means = x.means;
+}
+
+-- what is kept of a document's value may be a document's value
+kept-allowed : (asked : AskedFor) (v u : Value) → IsKept asked v u → IsDocumentValue v
+    → IsDocumentValue u
+kept-allowed (OfItems names) v u (inl same) valid = subst IsDocumentValue (sym same) valid
+kept-allowed (OfItems names) v u (inr is) valid =
+    subst IsDocumentValue (sym is) (picked-allowed (is_listed names.items) v valid)
+kept-allowed (Anywhere name) v u is valid = allowed-thinned name.now v u is valid
+
+meaning-kept : (asked : AskedFor) (bytes : List ℕ) (t : Shown) (i : Item)
+    (x : KeepsFlatText asked bytes t i) → meaning t i ≡ x.kept
+meaning-kept asked bytes t i x = ap (λ o. unwrap_or o null) x.means
+
+pub kept-sound : (asked : AskedFor) (bytes : List ℕ) (t : Shown) (i : Item) → IsUtf8 bytes
+    → KeepsFlatText asked bytes t i → is_flat t i ≡ true
+kept-sound asked bytes t i utf8 x =
+    let valid = (document_from_text bytes x.value utf8 x.reads x.short).valid in
+    and-both _ _ (ap is_some x.means)
+    (subst IsDocumentValue (sym (meaning-kept asked bytes t i x))
+    (kept-allowed asked x.value x.kept x.keeps valid))
+
+pub kept-document : (asked : AskedFor) (bytes : List ℕ) (f : Flat) (t : Shown) → IsUtf8 bytes
+    → shown f.tables ≡ t → KeepsFlatText asked bytes t f.root → IsReadFor asked bytes f
+kept-document asked bytes f t utf8 same x = record {
+  document = x.value;
+  is = document_from_text bytes x.value utf8 x.reads x.short;
+  kept =
+      subst (IsKept asked x.value)
+      (sym (ap (λ s. meaning s f.root) same ∙ meaning-kept asked bytes t f.root x)) x.keeps;
+}

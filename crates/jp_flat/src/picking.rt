@@ -1,0 +1,181 @@
+//! A list, and of those of its items that are objects some members alone.
+
+ghost use Rattle.std.specs.Prelude.{◌≡◌, ◌≤◌, ◌<◌, ◌∷◌, IfSome, OnSome, length, true};
+ghost use Rattle.json.specs.Align.{is_good};
+ghost use Rattle.jp_flat.specs.Asked.{is_listed, is_name, with_items_of, with_members};
+ghost use Rattle.jp_flat.specs.Flat.{Grows, shown};
+ghost use Rattle.jp_flat.specs.Private.Kept.{IsSaidAmong, KeepsFlat, KeepsFlatItems};
+ghost use Rattle.jp_flat.specs.Private.Kept.{KeepsFlatMembers};
+ghost use Rattle.jp_flat.specs.Private.Tokens.{IsSpelledIn, TokenHolds, token_of};
+
+use crate::closing::{close_list, close_object};
+use crate::cursor::Cursor;
+use crate::finding::find;
+use crate::item::{Item, Named};
+use crate::parts::{bytes_at, is_same};
+use crate::reading::{Pending, value, value_behind};
+use crate::rising::still_rises;
+use crate::spans::text_span;
+use crate::tables::Tables;
+use crate::token::{Spelled, Token};
+
+/// Reads a document's value, and if it is a list, of the objects that are its items the members of
+/// these names alone.
+pub(crate) fn picked_value(
+    tables: &mut Tables<'_>,
+    pending: &mut Pending,
+    reader: &mut Cursor<'_>,
+    depth: usize,
+    names: &[&str],
+) -> Option<Item>
+    requires { reader.old.text ≡ tables.old.text.now }
+    ensures keeps { IfSome result (KeepsFlat (λ v u. u ≡ with_items_of (is_listed names.now) v) depth
+        reader.old.tokens reader.new.tokens (shown tables.new)) }
+    ensures text { reader.new.text ≡ reader.old.text }
+{
+    let token = reader.next()?;
+    match token {
+        Token::BeginArray => {
+            let inside = depth.checked_sub(1)?;
+            let list = picked_items(tables, pending, reader, inside, names)?;
+            Some(list)
+        }
+        _ => {
+            let item = value_behind(tables, pending, reader, depth, token)?;
+            Some(item)
+        }
+    }
+}
+
+/// Reads the items of a list, and of those that are objects the members of these names alone.
+fn picked_items(
+    tables: &mut Tables<'_>,
+    pending: &mut Pending,
+    reader: &mut Cursor<'_>,
+    depth: usize,
+    names: &[&str],
+) -> Option<Item>
+    requires { reader.old.text ≡ tables.old.text.now }
+    ensures keeps { IfSome result (KeepsFlatItems (λ v u. u ≡ with_items_of (is_listed names.now) v)
+        depth reader.old.tokens reader.new.tokens (shown tables.new)) }
+    ensures text { reader.new.text ≡ reader.old.text }
+{
+    let base = pending.items.len();
+    'items: while !reader.take_end_array() {
+        let item = picked_item(tables, pending, reader, depth, names)?;
+        pending.items.push(item).ok()?;
+    }
+    let list = close_list(tables, &mut pending.items, base)?;
+    Some(list)
+}
+
+/// Reads an item, and if it is an object the members of these names alone.
+#[inline(always)]
+fn picked_item(
+    tables: &mut Tables<'_>,
+    pending: &mut Pending,
+    reader: &mut Cursor<'_>,
+    depth: usize,
+    names: &[&str],
+) -> Option<Item>
+    requires { reader.old.text ≡ tables.old.text.now }
+    ensures keeps { IfSome result (KeepsFlat (λ v u. u ≡ with_members (is_listed names.now) v) depth
+        reader.old.tokens reader.new.tokens (shown tables.new)) }
+    ensures grows { OnSome result (Grows (shown tables.old) (shown tables.new)) }
+    ensures items { OnSome result (pending.new.items.items ≡ pending.old.items.items) }
+    ensures members { OnSome result (pending.new.members.items ≡ pending.old.members.items) }
+    ensures shorter { OnSome result (length reader.new.tokens < length reader.old.tokens) }
+    ensures text { reader.new.text ≡ reader.old.text }
+{
+    let token = reader.next()?;
+    match token {
+        Token::BeginObject => {
+            let inside = depth.checked_sub(1)?;
+            let object = picked_members(tables, pending, reader, inside, names)?;
+            Some(object)
+        }
+        _ => {
+            let item = value_behind(tables, pending, reader, depth, token)?;
+            Some(item)
+        }
+    }
+}
+
+/// Reads the members of an object, and keeps those of these names alone.
+fn picked_members(
+    tables: &mut Tables<'_>,
+    pending: &mut Pending,
+    reader: &mut Cursor<'_>,
+    depth: usize,
+    names: &[&str],
+) -> Option<Item>
+    requires { reader.old.text ≡ tables.old.text.now }
+    ensures keeps { IfSome result (KeepsFlatMembers (λ v u. u ≡ with_members (is_listed names.now) v)
+        depth reader.old.tokens reader.new.tokens (shown tables.new)) }
+    ensures grows { OnSome result (Grows (shown tables.old) (shown tables.new)) }
+    ensures items { OnSome result (pending.new.items.items ≡ pending.old.items.items) }
+    ensures members { OnSome result (pending.new.members.items ≡ pending.old.members.items) }
+    ensures shorter { OnSome result (length reader.new.tokens < length reader.old.tokens) }
+    ensures text { reader.new.text ≡ reader.old.text }
+{
+    let base = pending.members.len();
+    let mut rises = true;
+    'members: while let Some(name) = reader.next_name()? {
+        if !is_picked(tables, names, name)? {
+            find(tables, pending, reader, depth, None)?;
+            continue;
+        }
+        rises = still_rises(rises, tables, &pending.members, base, name);
+        let span = text_span(tables, name)?;
+        let item = value(tables, pending, reader, depth)?;
+        pending.members.push(Named { name: span, item }).ok()?;
+    }
+    let object = close_object(
+        tables,
+        &mut pending.members,
+        &mut pending.sorted,
+        base,
+        rises,
+    )?;
+    Some(object)
+}
+
+/// Whether a name is one of these. None where its escapes are none, or no memory is left to undo them.
+#[inline(always)]
+fn is_picked(tables: &mut Tables<'_>, names: &[&str], name: Spelled<'_>) -> Option<bool>
+    requires { IsSpelledIn tables.old.text.now name }
+    ensures picked { IfSome result (IsSaidAmong names.now name.entry) }
+    ensures grows { OnSome result (Grows (shown tables.old) (shown tables.new)) }
+{
+    match name {
+        Spelled::Plain(_, text) => Some(is_one_of(names, text)),
+        Spelled::Escaped(_) => {
+            let span = text_span(tables, name)?;
+            let text = bytes_at(tables, span)?;
+            Some(is_one_of(names, text))
+        }
+    }
+}
+
+/// Whether the bytes are one of these names.
+#[inline(always)]
+fn is_one_of(names: &[&str], bytes: &[u8]) -> bool
+    ensures { result ≡ is_listed names.now bytes.now }
+{
+    let mut at = 0;
+    'names: while at < names.len() {
+        if is_name(names[at], bytes) {
+            return true;
+        }
+        at += 1;
+    }
+    false
+}
+
+/// Whether the bytes are this name. Most names differ in their length.
+#[inline(always)]
+fn is_name(name: &str, bytes: &[u8]) -> bool
+    ensures { result ≡ is_name name.now bytes.now }
+{
+    name.len() == bytes.len() && is_same(name, bytes)
+}
