@@ -1,4 +1,5 @@
 -- The files of definitions.
+pub mod Asked
 pub mod Functions
 pub mod Laws
 pub mod Lent

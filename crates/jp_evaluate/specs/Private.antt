@@ -1,6 +1,7 @@
 -- How an evaluation goes: what is asked at a value, what a walk still reaches, and what is kept
 -- between two calls. Beside `Rest`, the contracts of private functions alone cite it.
 pub mod Asked
+pub mod Asks
 pub mod Calls
 pub mod Meanings
 pub mod OnlyNode

@@ -12,7 +12,8 @@
 //! repeats, one at a time, and `evaluate` collects them; `lent_nodes` gives them of a value in
 //! whatever form it is lent. `holds_of` tells whether a filter's expression is true of a whole document.
 //! `named_location` tells the location that a query names, whatever the
-//! document, by `specs/Named.antt`. By `laws` the normalized path of a node of a document, read as a
+//! document, by `specs/Named.antt`, and `asked_by` what a query asks of a document, by
+//! `specs/Asked.antt`. By `laws` the normalized path of a node of a document, read as a
 //! query, selects that node alone, a query selects nodes of the document alone, and a singular one
 //! at most one. Nothing that they give depends on a query's profile: one without `distinct` means
 //! what it means with the standard's functions alone.
@@ -23,6 +24,7 @@
 //! nodes, and counts add up.
 #![tactic(auto)]
 
+mod asked;
 mod calls;
 mod each;
 mod evaluating;
@@ -43,6 +45,7 @@ mod tally;
 mod truth;
 mod walk;
 
+pub use asked::asked_by;
 pub use each::Nodes;
 pub use evaluation::{evaluate, nodes};
 pub use evaluation_fault::EvaluationFault;

@@ -36,20 +36,22 @@ flat_map-beyond l f (n ∷ ns) each =
     ap₂ (λ xs ys. xs ++ ys) (each n) (flat_map-beyond l f ns each)
     ∙ sym (map-append (beyond l) (f n) (flat_map f ns))
 
+pub those_of-map : (f : Node → Node) (p q : Node → Bool) (ns : List Node)
+    → ((n : Node) → p (f n) ≡ q n) → those_of p (map f ns) ≡ map f (those_of q ns)
+those_of-map f p q [] same = refl
+those_of-map f p q (n ∷ ns) same =
+    ap₂ (λ b xs. if b then f n ∷ xs else xs) (same n) (those_of-map f p q ns same) ∙ kept (q n)
+  where
+    kept : (b : Bool)
+        → (if b then f n ∷ map f (those_of q ns) else map f (those_of q ns))
+        ≡ map f (if b then n ∷ those_of q ns else those_of q ns)
+    kept true = refl
+    kept false = refl
+
 pub those_of-beyond : (l : Location) (p q : Node → Bool) (ns : List Node)
     → ((n : Node) → p (beyond l n) ≡ q n)
     → those_of p (map (beyond l) ns) ≡ map (beyond l) (those_of q ns)
-those_of-beyond l p q [] same = refl
-those_of-beyond l p q (n ∷ ns) same =
-    ap₂ (λ b xs. if b then beyond l n ∷ xs else xs) (same n) (those_of-beyond l p q ns same)
-    ∙ kept (q n)
-  where
-    kept : (b : Bool)
-        → (if b then beyond l n ∷ map (beyond l) (those_of q ns)
-        else map (beyond l) (those_of q ns)) ≡
-        map (beyond l) (if b then n ∷ those_of q ns else those_of q ns)
-    kept true = refl
-    kept false = refl
+those_of-beyond l = those_of-map (beyond l)
 
 pub repeats-beyond : (l : Location) (ns : List Node)
     → without_repeats (map (beyond l) ns) ≡ map (beyond l) (without_repeats ns)

@@ -10,7 +10,7 @@ use Rattle.jp_tree.specs.Views.{segment_of, selector_of}
 use Rattle.jp_tree.specs.declared.tree.Segment.{Segment, out-Segment}
 use Rattle.jp_tree.specs.declared.tree.Selector.{Selector}
 
-only_element : {X : Type 0} (xs : List X) (x : X) → length xs ≡ 1 → Some x ≡ slice_get xs 0
+pub only_element : {X : Type 0} (xs : List X) (x : X) → length xs ≡ 1 → Some x ≡ slice_get xs 0
     → xs ≡ x ∷ []
 only_element [] x one first = absurd (cc)
 only_element (y ∷ []) x one first = ap (λ z. z ∷ []) (sym (same_Some x y first))

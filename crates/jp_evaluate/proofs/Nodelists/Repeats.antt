@@ -19,7 +19,7 @@ use Rattle.jp_evaluate.specs.Laws.{AreApart, DistinctIsExact, is_there}
 pub location_cmp_total : IsTotalOrder location_cmp
 location_cmp_total = lists_total step_cmp_total
 
-equal_from : (o : Ordering) → is_eq o ≡ true → o ≡ Equal
+pub equal_from : (o : Ordering) → is_eq o ≡ true → o ≡ Equal
 equal_from Less is = absurd (cc)
 equal_from Equal is = refl
 equal_from Greater is = absurd (cc)

@@ -2,7 +2,7 @@
 use Rattle.std.proofs.Common.{◌≡◌, ◌^◌, ℕ, pos, negsuc, Bool, true, false, if◌then◌else◌}
 use Rattle.std.proofs.Common.{List, [], ◌∷◌, ◌++◌, Option, Some, None, map, option_map}
 use Rattle.std.proofs.Common.{option_and_then, option_to_list, nat_lt}
-use Rattle.std.proofs.Common.{IfSome, refl, sym, subst, ap, ◌∙◌, ltb}
+use Rattle.std.proofs.Common.{refl, sym, subst, ap, ◌∙◌, ltb}
 use Rattle.std.specs.Str.{encode_utf8_all}
 use Rattle.std.proofs.lemmas.Bool.{ltb-false}
 use Rattle.std.proofs.lemmas.List.{append-nil, append_assoc}
@@ -129,7 +129,7 @@ step_on s k l d names =
     step_from s k l d (value_at d l) names
     ∙ ap (λ o. map (node_at (l ++ k ∷ [])) (option_to_list o)) (sym (value_at-append d l (k ∷ [])))
 
-root_starts : (absolute : Bool) (d : Value) → root_of d ≡ start_of absolute d (root_of d)
+pub root_starts : (absolute : Bool) (d : Value) → root_of d ≡ start_of absolute d (root_of d)
 root_starts true d = refl
 root_starts false d = refl
 

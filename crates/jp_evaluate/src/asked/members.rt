@@ -1,0 +1,90 @@
+//! Segments that select members of some names alone, and then what their values have.
+
+ghost use Rattle.std.specs.Prelude.{◌≡◌, IfOk, map, option_map};
+ghost use Rattle.jp_tree.specs.Tree.{segments as segment_trees, selectors as selector_trees};
+ghost use Rattle.jp_tree.specs.Views.{segment_of, selector_of};
+ghost use Rattle.jp_evaluate.specs.Private.Asks.{Collects, are_unfiltered, asks_members, asks_name};
+ghost use Rattle.jp_evaluate.specs.Private.Asks.{asks_names, has_no_filter, is_unfiltered, name_selected};
+
+use crate::asked::names::push_name;
+use jp_tree::{Segment, Selector};
+use std::alloc::AllocError;
+
+/// Puts the names of the members that the segments ask for among others; whether these are told.
+pub(crate) fn push_members<'q>(
+    segments: &'q [Segment],
+    names: &mut Vec<&'q str>,
+) -> Result<bool, AllocError>
+    ensures { IfOk result (Collects names.old.items names.new.items
+        (λ p. asks_members p (segment_trees (map segment_of segments.now)))) }
+{
+    let [first, rest @ ..] = segments else {
+        return Ok(false);
+    };
+    if first.descendant || !has_no_filter(rest) {
+        return Ok(false);
+    }
+    push_names(&first.selectors, names)
+}
+
+fn push_names<'q>(selectors: &'q [Selector], names: &mut Vec<&'q str>) -> Result<bool, AllocError>
+    ensures { IfOk result (Collects names.old.items names.new.items
+        (λ p. asks_names p (selector_trees (map selector_of selectors.now)))) }
+{
+    for selector in selectors {
+        if !push_name_of(selector, names)? {
+            return Ok(false);
+        }
+    }
+    Ok(true)
+}
+
+fn push_name_of<'q>(selector: &'q Selector, names: &mut Vec<&'q str>) -> Result<bool, AllocError>
+    ensures { IfOk result (Collects names.old.items names.new.items
+        (λ p. asks_name p (selector_of selector.now))) }
+{
+    match name_of(selector) {
+        Some(name) => push_name(name, names),
+        None => Ok(false),
+    }
+}
+
+pub(crate) fn name_of(selector: &Selector) -> Option<&str>
+    ensures { option_map (λ s. s.now) result ≡ name_selected (selector_of selector.now) }
+{
+    match selector {
+        Selector::Name(name) => Some(name.as_str()),
+        Selector::Wildcard | Selector::Index(_) | Selector::Slice(_) | Selector::Filter(_) => None,
+    }
+}
+
+pub(crate) fn has_no_filter(segments: &[Segment]) -> bool
+    ensures { result ≡ has_no_filter (segment_trees (map segment_of segments.now)) }
+{
+    for segment in segments {
+        if !are_unfiltered(&segment.selectors) {
+            return false;
+        }
+    }
+    true
+}
+
+fn are_unfiltered(selectors: &[Selector]) -> bool
+    ensures { result ≡ are_unfiltered (selector_trees (map selector_of selectors.now)) }
+{
+    for selector in selectors {
+        if !is_unfiltered(selector) {
+            return false;
+        }
+    }
+    true
+}
+
+fn is_unfiltered(selector: &Selector) -> bool
+    ensures { result ≡ is_unfiltered (selector_of selector.now) }
+{
+    match selector {
+        Selector::Filter(_) => false,
+        Selector::Name(_) | Selector::Wildcard | Selector::Index(_) | Selector::Slice(_) => true,
+    }
+}

@@ -1,0 +1,34 @@
+//! The names of the members that a query asks for.
+
+ghost use Rattle.std.specs.Prelude.{◌≡◌, true, IfOk};
+ghost use Rattle.jp_evaluate.specs.Private.Asks.{AskedOf, Collects};
+
+use std::alloc::AllocError;
+
+/// How many names there are at most: each member's name is compared with each of them.
+const MOST_NAMES: usize = 8;
+
+/// Puts a name among others, unless it is one of them; whether there was room for it.
+pub(crate) fn push_name<'q>(name: &'q str, names: &mut Vec<&'q str>) -> Result<bool, AllocError>
+    ensures { IfOk result (Collects names.old.items names.new.items (λ p. p name.now)) }
+{
+    if is_among(names, name) {
+        return Ok(true);
+    }
+    if names.len() >= MOST_NAMES {
+        return Ok(false);
+    }
+    names.push(name)?;
+    Ok(true)
+}
+
+fn is_among(names: &[&str], name: &str) -> bool
+    ensures { result ≡ true → AskedOf names.now (λ p. p name.now) }
+{
+    for known in names {
+        if *known == name {
+            return true;
+        }
+    }
+    false
+}
