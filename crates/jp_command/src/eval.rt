@@ -1,10 +1,12 @@
 //! A run of a query over an input.
 
 ghost use Rattle.std.specs.Prelude.{◌⊎◌, IfErr, IfOk, OnOk};
+ghost use Rattle.jp_document.specs.Document.{IsDocumentFault};
 ghost use Rattle.jp_tree.specs.Views.{query_of};
 ghost use Rattle.jp_command.specs.Lines.{output_of};
 ghost use Rattle.jp_command.specs.Output.{StopsWriting, WritesAll};
 ghost use Rattle.jp_command.specs.Private.Kept.{KeepsRead};
+ghost use Rattle.jp_command.specs.Private.Answers.{IsReadToAnswer};
 ghost use Rattle.jp_command.specs.Run.{IsAsked, IsOutput, RanOut, RefusesQuery, RunsEval};
 ghost use Rattle.jp_command.specs.Writes.{GoesAs, WritesByCalls};
 
@@ -15,9 +17,10 @@ use crate::input::read_all;
 use crate::limits::QUERY_LIMIT;
 use crate::lines::{Form, Spare, write_selected};
 use jp_check::{Checked, Profile, read_query};
-use jp_evaluate::named_location;
-use jp_flat::found_value;
-use jp_held::{read_flat, read_value_at};
+use jp_document::DocumentFault;
+use jp_evaluate::{asked_by, named_location};
+use jp_flat::{Flat, found_value};
+use jp_held::{read_asked, read_flat, read_value_at};
 use jp_lent::Selectable;
 use jp_query::{Refusal, RefusalKind};
 use std::alloc::Global;
@@ -89,8 +92,30 @@ pub(crate) fn run_eval_keeping<R: Source, W: Writer>(
             write_found(alloc, form, "", &location, value, &mut spare.line, output)
         }
         None => {
-            let flat = read_flat(alloc, kept.as_slice())?;
+            let flat = read_to_answer(alloc, &query, kept.as_slice())?;
             write_output(alloc, form, flat.value(), &query, &mut spare, output)
+        }
+    }
+}
+
+/// The document that these bytes are, in tables, or so much of it as the query asks for; else what is
+/// wrong with them.
+fn read_to_answer<'t>(
+    alloc: Global,
+    query: &Checked,
+    bytes: &'t [u8],
+) -> Result<Flat<'t>, DocumentFault>
+    ensures ok { IfOk result (IsReadToAnswer (query_of query.now.query) bytes.now) }
+    ensures fault { IfErr result (IsDocumentFault bytes.now) }
+{
+    match asked_by(alloc, query)? {
+        Some(asked) => {
+            let flat = read_asked(alloc, bytes, &asked)?;
+            Ok(flat)
+        }
+        None => {
+            let flat = read_flat(alloc, bytes)?;
+            Ok(flat)
         }
     }
 }

@@ -6,11 +6,12 @@
 ghost use Rattle.std.specs.Prelude.{◌≡◌, IfErr, IfOk, map};
 ghost use Rattle.jp_document.specs.Document.{IsDocument, IsDocumentFault};
 ghost use Rattle.jp_document.specs.Location.{step_of};
+ghost use Rattle.jp_flat.specs.Asked.{IsReadFor};
 ghost use Rattle.jp_flat.specs.FlatValue.{IsValueAt, document_in, flat_found};
 
 use crate::document::Document;
 use jp_document::{DocumentFault, Step};
-use jp_flat::{Flat, Found, Room, flat_document, flat_value_at};
+use jp_flat::{AskedFor, Flat, Found, Room, flat_asked, flat_document, flat_value_at};
 use std::alloc::Global;
 
 /// The document that these bytes are, in tables, else what is wrong with them. `NoMemory` says
@@ -22,6 +23,25 @@ pub fn read_flat(alloc: Global, bytes: &[u8]) -> Result<Flat<'_>, DocumentFault>
     match flat_document(alloc, bytes) {
         Some(flat) => Ok(flat),
         None => read_by_tree(alloc, bytes),
+    }
+}
+
+/// The document that these bytes are, in tables, of which so much is kept as is asked of it, else what
+/// is wrong with them, as `read_flat` says: of what is not kept, too.
+pub fn read_asked<'t>(
+    alloc: Global,
+    bytes: &'t [u8],
+    asked: &AskedFor<'_>,
+) -> Result<Flat<'t>, DocumentFault>
+    ensures ok { IfOk result (IsReadFor asked.now bytes.now) }
+    ensures fault { IfErr result (IsDocumentFault bytes.now) }
+{
+    match flat_asked(alloc, bytes, asked) {
+        Some(flat) => Ok(flat),
+        None => {
+            let flat = read_by_tree(alloc, bytes)?;
+            Ok(flat)
+        }
     }
 }
 

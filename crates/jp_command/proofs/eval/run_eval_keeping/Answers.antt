@@ -1,11 +1,11 @@
 use Rattle.std.proofs.Common.{ap, map, rules, sym, ◌∙◌}
-use Rattle.jp_document.specs.Document.{IsDocument}
 use Rattle.jp_document.specs.Location.{step_of}
 use Rattle.jp_evaluate.specs.Named.{NamesLocation}
-use Rattle.jp_flat.specs.FlatValue.{IsValueAt, document_in, lent_flat}
+use Rattle.jp_flat.specs.FlatValue.{IsValueAt, lent_flat}
 use Rattle.jp_tree.specs.Views.{query_of}
 use Rattle.jp_command.specs.Found.{found_nodes}
 use Rattle.jp_command.specs.Lines.{lines_of, output_of}
+use Rattle.jp_command.specs.Private.Answers.{IsReadToAnswer}
 use Rattle.jp_command.specs.Run.{IsOutput}
 use Rattle.jp_command.proofs.Calls.{writes-by_calls}
 use Rattle.jp_command.proofs.FoundLines.{found-output}
@@ -53,10 +53,9 @@ returns-in_err-flat-in-None-clause-says g c =
 
 pub returns : goal.returns
 returns g c =
-    let d = document_in c.in_ok-flat-in-None.flat in
     let bytes = c.in_ok-bytes.bytes.items in
     let q = query_of c.in_ok-query.query.query in
-    let document : IsDocument bytes d = search rules in
+    let read : IsReadToAnswer q bytes c.in_ok-flat-in-None.flat = search rules in
     let output = output_of c.args.form q (lent_flat c.value.result) in
     let Is = IsOutput c.args.profile g.R.Source.remaining g.R.Source.has_failed
     g.R.Source.read_gives g.W.Writer.contents g.W.Writer.has_failed c.args.form c.args.query.now
@@ -64,11 +63,11 @@ returns g c =
     let is : Is output = record {
       q = q;
       bytes = bytes;
-      d = d;
+      d = read.document;
       asked = c.in_ok-query.ensures.asked;
       reads = c.in_ok-bytes.ensures.ok;
-      document = document;
-      is = ap (output_of c.args.form q) c.value.ensures;
+      document = read.is;
+      is = ap (output_of c.args.form q) c.value.ensures ∙ ap (lines_of c.args.form) read.same;
     } in
     record {
       says = run-ends c.args.profile g.R.Source.remaining g.R.Source.has_failed
