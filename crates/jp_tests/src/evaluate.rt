@@ -1,5 +1,6 @@
 //! Nodelists, and nodes one at a time. Other rows are in jp_command's table.
 
+mod asked;
 mod places;
 mod settled;
 mod steps;

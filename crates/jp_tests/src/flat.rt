@@ -1,5 +1,6 @@
 //! Documents in tables.
 
+mod asked;
 mod documents;
 mod escapes;
 mod locations;

@@ -1,0 +1,137 @@
+//! Documents of which no more is kept than is asked for.
+
+use jp_flat::{AskedFor, flat_asked};
+use jp_lent::value_text;
+use std::alloc::{AllocError, Global};
+use std::test::Fail;
+
+/// Documents, and what is kept of them where of a list's items the members `a` and `bc` are asked for.
+const OF_ITEMS: [(&str, &str); 14] = [
+    (r#"[{"a":1,"b":2},{"b":3},{}]"#, r#"[{"a":1},{},{}]"#),
+    (r#"[{"x":0,"bc":1,"a":2}]"#, r#"[{"a":2,"bc":1}]"#),
+    (
+        r#"[{"a":{"x":[1,{"y":2}]},"x":3}]"#,
+        r#"[{"a":{"x":[1,{"y":2}]}}]"#,
+    ),
+    // each name once, with the value that came last
+    (r#"[{"a":1,"b":2,"a":3}]"#, r#"[{"a":3}]"#),
+    (r#"[{"a":[1],"a":{"a":2}}]"#, r#"[{"a":{"a":2}}]"#),
+    // names of one length, and beginnings of the names
+    (r#"[{"b":1,"bb":2,"ab":3,"abc":4,"":5}]"#, "[{}]"),
+    // names with escapes
+    (
+        r#"[{"\u0061":1,"\u0062":2,"b\u0063":3}]"#,
+        r#"[{"a":1,"bc":3}]"#,
+    ),
+    (r#"[{"a":1,"\u0061":2}]"#, r#"[{"a":2}]"#),
+    // items that are no objects, and what is in them
+    (
+        r#"[1,"a",null,[{"a":1,"b":2}]]"#,
+        r#"[1,"a",null,[{"a":1,"b":2}]]"#,
+    ),
+    ("[]", "[]"),
+    // no lists
+    (r#"{"a":1,"b":2}"#, r#"{"a":1,"b":2}"#),
+    (r#""b""#, r#""b""#),
+    // what is left out may have anything inside
+    (
+        r#"[{"b":[[],{"c":{"d":"\u00e9\n"}}],"a":1}]"#,
+        r#"[{"a":1}]"#,
+    ),
+    (
+        r#"[ { "b" : true , "a" : -1 } , { "a" : null } ]"#,
+        r#"[{"a":-1},{"a":null}]"#,
+    ),
+];
+
+/// Documents, and what is kept of them where members of the name `a` are asked for, wherever they stand.
+const ANYWHERE: [(&str, &str); 15] = [
+    (r#"{"x":1,"y":"b","a":2}"#, r#"{"a":2}"#),
+    (r#"{"x":1,"y":2}"#, "{}"),
+    (
+        r#"{"a":{"x":1,"y":[{"z":2}]}}"#,
+        r#"{"a":{"x":1,"y":[{"z":2}]}}"#,
+    ),
+    (r#"{"x":{"y":1,"a":2}}"#, r#"{"x":{"a":2}}"#),
+    (
+        r#"[1,{"x":true,"a":false},[{"y":null}]]"#,
+        r#"[1,{"a":false},[{}]]"#,
+    ),
+    // behind the first one that is kept all are
+    (r#"{"x":1,"a":2,"y":3}"#, r#"{"a":2,"y":3}"#),
+    (r#"{"x":1,"l":[],"y":3,"a":2}"#, r#"{"a":2,"l":[],"y":3}"#),
+    // each name once, with the value that came last
+    (r#"{"l":[{"a":1}],"l":5}"#, r#"{"l":5}"#),
+    (r#"{"l":5,"l":[{"a":1}]}"#, r#"{"l":[{"a":1}]}"#),
+    (r#"{"x":1,"x":2}"#, "{}"),
+    (r#"{"a":1,"a":2}"#, r#"{"a":2}"#),
+    // names with escapes
+    (r#"{"\u0061":1}"#, r#"{"a":1}"#),
+    (r#"{"\u0062":1}"#, r#"{"b":1}"#),
+    // no objects
+    ("[1,2]", "[1,2]"),
+    ("7", "7"),
+];
+
+/// Bytes that are no document, though what is wrong is not asked for.
+const WRONG: [&str; 10] = [
+    r#"[{"b":1.5,"a":1}]"#,
+    r#"[{"b":[1,],"a":1}]"#,
+    r#"[{"b":"\x","a":1}]"#,
+    r#"[{"b":01,"a":1}]"#,
+    r#"[{"b":1 "a":1}]"#,
+    r#"[{"\x":1,"a":1}]"#,
+    r#"[{"b":1,}]"#,
+    r#"[{"b":18446744073709551616}]"#,
+    r#"[{"b":1}"#,
+    r#"[{"b":1}]]"#,
+];
+
+/// The compact text of what is kept of a document, None where tables do not hold it.
+fn kept_text(
+    alloc: Global,
+    text: &str,
+    asked: &AskedFor<'_>,
+) -> Result<Option<String>, AllocError> {
+    match flat_asked(alloc, text.as_bytes(), asked) {
+        Some(flat) => Ok(Some(value_text(alloc, flat.value())?)),
+        None => Ok(None),
+    }
+}
+
+fn of_items(alloc: Global) -> Result<AskedFor<'static>, AllocError> {
+    let mut names = Vec::new(alloc);
+    names.push("a")?;
+    names.push("bc")?;
+    Ok(AskedFor::OfItems(names))
+}
+
+#[test]
+fn members_of_items(rt: HostRuntime) -> Result<(), Fail> {
+    let asked = of_items(rt.alloc())?;
+    for (text, wanted) in OF_ITEMS {
+        let kept = kept_text(rt.alloc(), text, &asked)?;
+        assert_eq!(rt; kept.as_deref(), Some(wanted), "{text}");
+    }
+    Ok(())
+}
+
+#[test]
+fn members_anywhere(rt: HostRuntime) -> Result<(), Fail> {
+    for (text, wanted) in ANYWHERE {
+        let kept = kept_text(rt.alloc(), text, &AskedFor::Anywhere("a"))?;
+        assert_eq!(rt; kept.as_deref(), Some(wanted), "{text}");
+    }
+    Ok(())
+}
+
+#[test]
+fn wrong_where_nothing_is_asked_for(rt: HostRuntime) -> Result<(), Fail> {
+    let asked = of_items(rt.alloc())?;
+    for text in WRONG {
+        assert_eq!(rt; kept_text(rt.alloc(), text, &asked)?, None, "{text}");
+        let anywhere = kept_text(rt.alloc(), text, &AskedFor::Anywhere("a"))?;
+        assert_eq!(rt; anywhere, None, "{text}");
+    }
+    Ok(())
+}
