@@ -46,6 +46,7 @@ enum Extent {
 }
 
 /// Whether a function is true of the values of two arguments; one of another kind is not.
+#[inline(always)]
 pub(crate) fn logical_answer<'q, V: Lent + 'q, M: Matching>(
     evaluation: &Evaluation<'q, V, M>,
     work: &mut Work,
