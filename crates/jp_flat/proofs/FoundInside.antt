@@ -1,4 +1,5 @@
--- What is found as an object or a list goes on: for the loops of `find_item` and `find_member`.
+-- What is found as an object or a list goes on: for the loops of `finding`, and for those of
+-- `passing`, where nothing is sought.
 use Rattle.std.proofs.Common.{◌≡◌, ◌+◌, ◌-◌, ◌^◌, ◌<◌, ◌≤◌, ◌++◌, ℕ, zero, suc, Bool, true, false}
 use Rattle.std.proofs.Common.{List, [], ◌∷◌, Option, Some, None, cond, length, map, option_map}
 use Rattle.std.proofs.Common.{option_and_then, refl, sym, ap, subst, ◌∙◌, arith, Ordering, Less}

@@ -152,13 +152,18 @@ leaf-boolean k t b is = λ depth r items. (
   refl,
 )
 
+pub text-read : (depth : ℕ) (k : Token) (r : List Token) (x : List ℕ) → k ≡ Token.string x
+    → ReadsValue depth (k ∷ r) r (text x)
+text-read depth k r x is =
+    one_token depth (k ∷ r) r (Token.string x) (parsed.string x) (text x) (ap (λ k. k ∷ r) is)
+    (ap (converted of_json) (value_is depth (Token.string x ∷ r))) refl
+
 pub leaf-text : (k : Token) (t : Shown) (p : Span) (x : List ℕ) → k ≡ Token.string x
     → text_at t p ≡ Some x → ReadsLeaf k t (code.Text p)
 leaf-text k t p x is at = λ depth r items. (
   record {
     value = text x;
-    reads = one_token depth (k ∷ r) r (Token.string x) (parsed.string x) (text x)
-        (ap (λ k. k ∷ r) is) (ap (converted of_json) (value_is depth (Token.string x ∷ r))) refl;
+    reads = text-read depth k r x is;
     short = refl;
     means = text_means depth (with_items t items) p x at;
   },

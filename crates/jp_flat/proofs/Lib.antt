@@ -18,6 +18,7 @@ pub mod Loops
 pub mod Moved
 pub mod Names
 pub mod Owned
+pub mod Passed
 pub mod Picked
 pub mod PickedParts
 pub mod PickedValues

@@ -17,8 +17,8 @@ use Rattle.json.specs.Run.{is_plain}
 use Rattle.json.specs.Text.{Within, after_backslash, after_high, after_u, code_unit, content}
 use Rattle.json.specs.Text.{is_high_surrogate, is_low_surrogate, plain, prepend, short_escape}
 use Rattle.json.specs.Text.{surrogate_pair}
-use Rattle.jp_flat.specs.Private.Escapes.{GoesOn, IsCodeUnit, IsEscape}
-use Rattle.jp_flat.specs.Private.Tokens.{IsEndOf}
+use Rattle.jp_flat.specs.Private.Escapes.{GoesOn, IsCodeUnit, IsEscape, IsPastEscape}
+use Rattle.jp_flat.specs.Private.Tokens.{IsEndOf, IsSaid}
 use Rattle.jp_flat.proofs.Lexed.{first_is, prepend-prepend, read_ends, read_to}
 
 -- ---- pieces one behind another
@@ -80,6 +80,32 @@ pub goes-to-quote : (d before after : List ℕ) (to : ℕ) → GoesOn d before 0
 goes-to-quote d before after to goes within quote =
     goes.reads ∙ ap (prepend after) (read_ends d to within quote) ∙ ap Some (append-nil after)
 
+-- ---- a text that is read and not kept
+
+-- the text from its front up to an offset is read as some bytes
+pub record HasGone (d : List ℕ) (to : ℕ) : Type 0 where
+  pub read : List ℕ
+  pub goes : GoesOn d [] 0 read to
+
+pub gone-nowhere : (d : List ℕ) → HasGone d 0
+gone-nowhere d = record { read = []; goes = goes-nowhere d [] }
+
+pub gone-over : (d : List ℕ) (at to : ℕ) → to ≡ at + prefix_len is_plain (drop at d)
+    → to ≤ length d → HasGone d at → HasGone d to
+gone-over d at to is within so = record {
+  read = so.read ++ slice_range d at to;
+  goes = goes-on d _ _ _ 0 at to so.goes
+      (subst (λ s. GoesOn d s at (so.read ++ slice_range d at to) to) (empty-piece d so.read at)
+      (run-goes-on d so.read _ at at to (omega arith) is within refl));
+}
+
+pub gone-past : (d : List ℕ) (at to : ℕ) → IsPastEscape d at to → HasGone d at → HasGone d to
+gone-past d at to past so = record {
+  read = so.read ++ encode_utf8 past.character;
+  goes = goes-on d _ _ _ 0 at to so.goes
+      (escape-goes-on d so.read _ at past.character to past.is refl);
+}
+
 -- ---- what is appended in the end
 
 behind : (before after : List ℕ) (o : Option (List ℕ)) → prepend before o ≡ Some after
@@ -96,6 +122,14 @@ pub appended : (text quoted before after : List ℕ) (old : ℕ) → text ≡ dr
 appended text quoted before after old same long is =
     ap (content plain) (sym same) ∙ behind before after (content plain text) is
     ∙ ap (λ n. Some (drop n after)) (sym long)
+
+-- a text that has gone up to its last quote has a content
+pub gone-to-quote : (d : List ℕ) (to : ℕ) → HasGone d to → to < length d → get_or d to 0 ≡ 34
+    → IsSaid (content plain d)
+gone-to-quote d to so within quote = record {
+  text = drop 0 so.read;
+  says = behind [] so.read (content plain d) (goes-to-quote d [] so.read to so.goes within quote);
+}
 
 -- the end of a document, without its first byte
 pub end-past-first : (d q : List ℕ) (at : ℕ) → at ≡ length d - length q → IsEndOf d q

@@ -1,13 +1,14 @@
 //! Texts between quotes, with their escapes undone (RFC 8259 section 7).
 
-ghost use Rattle.std.specs.Prelude.{◌≡◌, ◌+◌, ◌++◌, ◌<◌, ◌≤◌, IfSome, OnSome, Some, true};
+ghost use Rattle.std.specs.Prelude.{◌≡◌, ◌+◌, ◌++◌, ◌<◌, ◌≤◌, IfSome, IsTrue, OnSome, Some, true};
 ghost use Rattle.std.specs.Prelude.{length, slice_index, slice_range, string_bytes};
 ghost use Rattle.std.specs.Bool.{OnTrue};
 ghost use Rattle.std.specs.Char.{digit_value};
 ghost use Rattle.std.specs.Str.{IsCharBoundary};
 ghost use Rattle.json.specs.Text.{after_backslash, after_high, after_u, content, plain, prepend};
 ghost use Rattle.json.specs.Text.{is_high_surrogate, short_escape};
-ghost use Rattle.jp_flat.specs.Private.Escapes.{GoesOn, IsCodeUnit, IsEscape};
+ghost use Rattle.jp_flat.specs.Private.Escapes.{GoesOn, IsCodeUnit, IsEscape, IsPastEscape};
+ghost use Rattle.jp_flat.specs.Private.Tokens.{IsSaid};
 
 use crate::runs::plain_end;
 
@@ -38,6 +39,41 @@ pub(crate) fn push_content(out: &mut String, text: &str) -> Option<()>
             at = next;
         }
     }
+}
+
+/// Whether a text between quotes, from behind the first quote on, has a last one and no escapes that
+/// are none.
+#[inline(never)]
+pub(crate) fn has_content(bytes: &[u8]) -> bool
+    ensures { IsTrue result → IsSaid (content plain bytes.now) }
+{
+    let mut at = 0;
+    'escapes: loop {
+        let end = plain_end(bytes, at);
+        if end == bytes.len() {
+            return false;
+        }
+        if bytes[end] == b'"' {
+            return true;
+        }
+        let Some(next) = past_escape(bytes, end) else {
+            return false;
+        };
+        at = next;
+    }
+}
+
+/// Where the text goes on behind the escape at an offset.
+#[inline(always)]
+fn past_escape(bytes: &[u8], at: usize) -> Option<usize>
+    requires { at < length bytes.now }
+    ensures { IfSome result (IsPastEscape bytes.now at) }
+{
+    if is_escaped_itself(bytes, at) {
+        return Some(at + 2);
+    }
+    let (_, next) = escape(bytes, at)?;
+    Some(next)
 }
 
 /// Appends a piece of the text: the bytes from the first on up to an offset, and those behind it that

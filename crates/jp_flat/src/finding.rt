@@ -1,7 +1,7 @@
 //! The value at a location of a document, found while the document is read. Of values that stand
-//! elsewhere nothing is kept but unescaped texts.
+//! elsewhere nothing is kept but unescaped names and texts on the way to it.
 
-ghost use Rattle.std.specs.Prelude.{◌≡◌, ◌<◌, IfSome, OnSome, length, option_map};
+ghost use Rattle.std.specs.Prelude.{◌≡◌, ◌<◌, IfSome, OnSome, Some, length};
 ghost use Rattle.jp_document.specs.Location.{named, nth};
 ghost use Rattle.jp_flat.specs.Flat.{Grows, shown};
 ghost use Rattle.jp_flat.specs.Private.Found.{FindsAt, FindsItem, FindsMember, later, location_of};
@@ -12,6 +12,7 @@ use crate::cursor::Cursor;
 use crate::item::Item;
 use crate::leaf::leaf;
 use crate::parts::{bytes_at, is_same};
+use crate::passing::pass_value;
 use crate::reading::{Pending, lone_value};
 use crate::spans::text_span;
 use crate::tables::Tables;
@@ -51,9 +52,12 @@ pub(crate) fn find(
         }
         Some([step, rest @ ..]) => {
             let sought = Sought { step: *step, rest };
-            find_inside(tables, pending, reader, depth, Some(sought))
+            find_inside(tables, pending, reader, depth, sought)
         }
-        None => find_inside(tables, pending, reader, depth, None),
+        None => {
+            pass_value(reader, depth)?;
+            Some(None)
+        }
     }
 }
 
@@ -65,11 +69,11 @@ fn find_inside(
     pending: &mut Pending,
     reader: &mut Cursor<'_>,
     depth: usize,
-    sought: Option<Sought<'_>>,
+    sought: Sought<'_>,
 ) -> Option<Option<Item>>
     requires { reader.old.text ≡ tables.old.text.now }
     ensures finds { IfSome result (FindsAt depth reader.old.tokens reader.new.tokens (shown tables.new)
-        (option_map whole_location sought.entry)) }
+        (Some (whole_location sought.entry))) }
     ensures grows { OnSome result (Grows (shown tables.old) (shown tables.new)) }
     ensures items { OnSome result (pending.new.items.items ≡ pending.old.items.items) }
     ensures members { OnSome result (pending.new.members.items ≡ pending.old.members.items) }
@@ -100,11 +104,11 @@ fn find_item(
     pending: &mut Pending,
     reader: &mut Cursor<'_>,
     depth: usize,
-    sought: Option<Sought<'_>>,
+    sought: Sought<'_>,
 ) -> Option<Option<Item>>
     requires { reader.old.text ≡ tables.old.text.now }
     ensures finds { IfSome result (FindsItem depth reader.old.tokens reader.new.tokens
-        (shown tables.new) (option_map whole_location sought.entry)) }
+        (shown tables.new) (Some (whole_location sought.entry))) }
     ensures grows { OnSome result (Grows (shown tables.old) (shown tables.new)) }
     ensures items { OnSome result (pending.new.items.items ≡ pending.old.items.items) }
     ensures members { OnSome result (pending.new.members.items ≡ pending.old.members.items) }
@@ -130,11 +134,11 @@ fn find_member(
     pending: &mut Pending,
     reader: &mut Cursor<'_>,
     depth: usize,
-    sought: Option<Sought<'_>>,
+    sought: Sought<'_>,
 ) -> Option<Option<Item>>
     requires { reader.old.text ≡ tables.old.text.now }
     ensures finds { IfSome result (FindsMember depth reader.old.tokens reader.new.tokens
-        (shown tables.new) (option_map whole_location sought.entry)) }
+        (shown tables.new) (Some (whole_location sought.entry))) }
     ensures grows { OnSome result (Grows (shown tables.old) (shown tables.new)) }
     ensures items { OnSome result (pending.new.items.items ≡ pending.old.items.items) }
     ensures members { OnSome result (pending.new.members.items ≡ pending.old.members.items) }
@@ -160,10 +164,10 @@ fn found_later(found: Option<Item>, inside: Option<&[Step<'_>]>, item: Option<It
 
 /// What is sought in the item with this index.
 #[inline(always)]
-fn item_sought<'l>(sought: Option<Sought<'l>>, index: u32) -> Option<&'l [Step<'l>]>
-    ensures { location_of result ≡ sought_at (nth index) (option_map whole_location sought.entry) }
+fn item_sought<'l>(sought: Sought<'l>, index: u32) -> Option<&'l [Step<'l>]>
+    ensures { location_of result ≡ sought_at (nth index) (Some (whole_location sought.entry)) }
 {
-    let Sought { step, rest } = sought?;
+    let Sought { step, rest } = sought;
     match step {
         Step::Index(wanted) if wanted == u64::from(index) => Some(rest),
         _ => None,
@@ -175,12 +179,12 @@ fn item_sought<'l>(sought: Option<Sought<'l>>, index: u32) -> Option<&'l [Step<'
 #[inline(always)]
 fn member_sought<'l>(
     tables: &mut Tables<'_>,
-    sought: Option<Sought<'l>>,
+    sought: Sought<'l>,
     name: Spelled<'_>,
 ) -> Option<Option<&'l [Step<'l>]>>
     requires { IsSpelledIn tables.old.text.now name }
-    ensures sought { IfSome result (λ inside. IsSoughtIn name.entry (option_map whole_location
-        sought.entry) (location_of inside)) }
+    ensures sought { IfSome result (λ inside. IsSoughtIn name.entry (Some (whole_location
+        sought.entry)) (location_of inside)) }
     ensures grows { OnSome result (Grows (shown tables.old) (shown tables.new)) }
 {
     match name {
@@ -195,10 +199,10 @@ fn member_sought<'l>(
 
 /// What is sought in the member with the name of these bytes.
 #[inline(always)]
-fn sought_by<'l>(sought: Option<Sought<'l>>, name: &[u8]) -> Option<&'l [Step<'l>]>
-    ensures { location_of result ≡ sought_at (named name.now) (option_map whole_location sought.entry) }
+fn sought_by<'l>(sought: Sought<'l>, name: &[u8]) -> Option<&'l [Step<'l>]>
+    ensures { location_of result ≡ sought_at (named name.now) (Some (whole_location sought.entry)) }
 {
-    let Sought { step, rest } = sought?;
+    let Sought { step, rest } = sought;
     match step {
         Step::Name(wanted) if is_same(wanted, name) => Some(rest),
         _ => None,

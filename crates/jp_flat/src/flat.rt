@@ -151,8 +151,8 @@ impl Room {
     }
 
     /// The value at this location of the document that these bytes are, or that it has none there. It is
-    /// found while the document is read, and takes no memory for what stands elsewhere but for unescaped
-    /// texts. An `Err` gives the memory back, and says nothing of the bytes.
+    /// found while the document is read, and takes no memory for what stands elsewhere but for texts
+    /// with escapes on the way to it. An `Err` gives the memory back, and says nothing of the bytes.
     pub fn read_at<'t>(self, bytes: &'t [u8], location: &[Step<'_>]) -> Result<Found<'t>, Room>
         ensures { IfOk result (λ f. IsValueAt bytes.now (map step_of location.now) (flat_found f)) }
     {

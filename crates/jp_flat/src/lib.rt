@@ -38,6 +38,7 @@ mod moving;
 mod number;
 mod of_tree;
 mod parts;
+mod passing;
 mod picking;
 mod reading;
 mod rising;

@@ -10,9 +10,9 @@ ghost use Rattle.jp_flat.specs.Private.Tokens.{IsSpelledIn, TokenHolds, token_of
 
 use crate::closing::{close_list, close_object};
 use crate::cursor::Cursor;
-use crate::finding::find;
 use crate::item::{Item, Named};
 use crate::parts::{bytes_at, is_same};
+use crate::passing::pass_value;
 use crate::reading::{Pending, value, value_behind};
 use crate::rising::still_rises;
 use crate::spans::text_span;
@@ -122,7 +122,7 @@ fn picked_members(
     let mut rises = true;
     'members: while let Some(name) = reader.next_name()? {
         if !is_picked(tables, names, name)? {
-            find(tables, pending, reader, depth, None)?;
+            pass_value(reader, depth)?;
             continue;
         }
         rises = still_rises(rises, tables, &pending.members, base, name);

@@ -19,7 +19,7 @@ use std::alloc::Global;
 /// The value at this location of the document that these bytes are, in tables that hold nothing else;
 /// None in it where the document has no value there. None says nothing of the bytes, as with
 /// `flat_document`. It is found while the document is read, and takes no memory for what stands
-/// elsewhere but for unescaped texts.
+/// elsewhere but for texts with escapes on the way to it.
 pub fn flat_value_at<'t>(
     alloc: Global,
     bytes: &'t [u8],

@@ -19,6 +19,11 @@ pub record IsEscape (d : List ℕ) (w : Within) (from c to : ℕ) : Type 0 where
   pub reads : content w (drop from d) ≡ prepend (encode_utf8 c) (content plain (drop to d))
   pub ascii : slice_index d (to - 1) < 128
 
+-- an escape stands from one offset on up to the other
+pub record IsPastEscape (d : List ℕ) (from to : ℕ) : Type 0 where
+  pub character : ℕ
+  pub is : IsEscape d plain from character to
+
 -- the four bytes from the offset on are hexadecimal digits of the code unit
 pub record IsCodeUnit (d : List ℕ) (from u : ℕ) : Type 0 where
   pub within : from + 4 ≤ length d

@@ -83,3 +83,20 @@ pub record FindsInText (source : List ℕ) (t : Shown) (l : Location) (i : Optio
     pub reads : ReadsText source value
     pub short : everywhere list_fits value ≡ true
     pub found : IsFoundAs most_levels t (value_at value l) i
+
+-- the tokens begin with a value, and the rest follows; nothing is sought in it, whatever the tables
+-- hold
+abbrev pub PassesValue : ℕ → List Token → List Token → Type 0
+PassesValue depth ts rest = (t : Shown) → FindsAt depth ts rest t None None
+
+-- the same of the items of a list
+abbrev pub PassesItems : ℕ → List Token → List Token → Type 0
+PassesItems depth ts rest = (t : Shown) → FindsItem depth ts rest t None None
+
+-- the same of the members of an object
+abbrev pub PassesMembers : ℕ → List Token → List Token → Type 0
+PassesMembers depth ts rest = (t : Shown) → FindsMember depth ts rest t None None
+
+-- the token alone is such a value
+abbrev pub PassesLeaf : Token → Type 0
+PassesLeaf token = (depth : ℕ) (rest : List Token) → PassesValue depth (token ∷ rest) rest

@@ -36,11 +36,13 @@ find_inside-returns-in_ok-leaf-in_default-clause-finds t c =
     let done = c.in_ok-leaf-in_default.ensures in
     finds-leaf c.args.depth c.args.reader.now.tokens c.next.new.self.tokens
     (token_of c.in_ok-token.token) (shown c.leaf.new.tables) c.in_ok-leaf-in_default.field-0
-    c.args.sought (c.in_ok-token.ensures.reads done.good) done.leaf
+    (Some c.args.sought) (c.in_ok-token.ensures.reads done.good) done.leaf
 
 pub find_item-items-init : goal.find_item-items-init
 find_item-items-init t c = record {
-  so = items_begin c.args.depth c.args.reader.now.tokens (shown c.args.tables.now) c.args.sought;
+  so =
+      items_begin c.args.depth c.args.reader.now.tokens (shown c.args.tables.now)
+      (Some c.args.sought);
   items = refl;
   members = refl;
   text = search rules;
@@ -61,7 +63,7 @@ find_item-items-preserved t c =
       so = rw c.in_ok-index.ensures.1
           (rw c.found_later-found.ensures
           (items_more c.args.depth c.args.reader.now.tokens l.reader.tokens r (shown c.args.tables.now)
-          (shown l.tables) w c.args.sought l.index here l.found i c.in_ok-index.ensures.0
+          (shown l.tables) w (Some c.args.sought) l.index here l.found i c.in_ok-index.ensures.0
           c.item_sought-inside.ensures less done.grows read l.invariant.so));
       items = done.items ∙ l.invariant.items;
       members = done.members ∙ l.invariant.members;
@@ -73,11 +75,14 @@ find_item-returns-clause-finds t c =
     let l = c.items in
     let over : after_end_array l.reader.tokens ≡ Some c.take_end_array.new.self.tokens = grind arith in
     items_end c.args.depth c.args.reader.now.tokens l.reader.tokens c.take_end_array.new.self.tokens
-    (shown c.args.tables.now) (shown l.tables) c.args.sought l.index l.found over l.invariant.so
+    (shown c.args.tables.now) (shown l.tables) (Some c.args.sought) l.index l.found over
+    l.invariant.so
 
 pub find_member-members-init : goal.find_member-members-init
 find_member-members-init t c = record {
-  so = members_begin c.args.depth c.args.reader.now.tokens (shown c.args.tables.now) c.args.sought;
+  so =
+      members_begin c.args.depth c.args.reader.now.tokens (shown c.args.tables.now)
+      (Some c.args.sought);
   items = refl;
   members = refl;
   text = search rules;
@@ -102,9 +107,9 @@ find_member-members-preserved t c =
     record {
       so = rw c.found_later-found.ensures
           (members_more c.args.depth c.args.reader.now.tokens l.reader.tokens a r
-          (shown c.args.tables.now) (shown l.tables) w (shown c.find.new.tables) c.args.sought k here
-          l.found i named sought.is shorter c.in_ok-inside.ensures.grows done.grows done.finds
-          l.invariant.so);
+          (shown c.args.tables.now) (shown l.tables) w (shown c.find.new.tables)
+          (Some c.args.sought) k here l.found i named sought.is shorter
+          c.in_ok-inside.ensures.grows done.grows done.finds l.invariant.so);
       items = done.items ∙ l.invariant.items;
       members = done.members ∙ l.invariant.members;
       text = search rules;
@@ -115,4 +120,4 @@ find_member-returns-clause-finds t c =
     let l = c.members in
     let over : read_key l.reader.tokens ≡ Some (None, c.next_name.new.self.tokens) = grind arith in
     members_end c.args.depth c.args.reader.now.tokens l.reader.tokens c.next_name.new.self.tokens
-    (shown c.args.tables.now) (shown l.tables) c.args.sought l.found over l.invariant.so
+    (shown c.args.tables.now) (shown l.tables) (Some c.args.sought) l.found over l.invariant.so

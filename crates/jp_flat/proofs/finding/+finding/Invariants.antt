@@ -1,4 +1,4 @@
-use Rattle.std.proofs.Common.{◌≡◌, ◌*◌, ◌+◌, length}
+use Rattle.std.proofs.Common.{◌≡◌, ◌*◌, ◌+◌, Some, length}
 use Rattle.jp_flat.specs.Flat.{shown}
 use Rattle.jp_flat.proofs.FoundInside.{ItemsFound, MembersFound}
 use Rattle.jp_flat.proofs.finding.+finding.Given as goal
@@ -18,7 +18,7 @@ decreases-find_member l = 3 * l.depth + 2
 abbrev pub invariant-find_item-items : goal.invariant-find_item-items
 invariant-find_item-items l = record {
   so : ItemsFound l.depth l.initial.reader.tokens l.reader.tokens (shown l.initial.tables) (shown l.tables)
-      l.sought l.index l.found;
+      (Some l.sought) l.index l.found;
   items : l.pending.items.items ≡ l.initial.pending.items.items;
   members : l.pending.members.items ≡ l.initial.pending.members.items;
   text : (l.reader.text ≡ l.tables.text.now) × (l.reader.text ≡ l.initial.reader.text);
@@ -30,7 +30,7 @@ decreases-find_item-items l = length l.reader.tokens
 abbrev pub invariant-find_member-members : goal.invariant-find_member-members
 invariant-find_member-members l = record {
   so : MembersFound l.depth l.initial.reader.tokens l.reader.tokens (shown l.initial.tables) (shown l.tables)
-      l.sought l.found;
+      (Some l.sought) l.found;
   items : l.pending.items.items ≡ l.initial.pending.items.items;
   members : l.pending.members.items ≡ l.initial.pending.members.items;
   text : (l.reader.text ≡ l.tables.text.now) × (l.reader.text ≡ l.initial.reader.text);

@@ -7,6 +7,7 @@ use Rattle.jp_flat.specs.Asked.{is_listed}
 use Rattle.jp_flat.specs.Flat.{shown}
 use Rattle.jp_flat.specs.Private.Tokens.{ReadsName, said}
 use Rattle.jp_flat.specs.declared.item.Named.{Named}
+use Rattle.jp_flat.proofs.Growth.{grows_same}
 use Rattle.jp_flat.proofs.Loops.{above_said}
 use Rattle.jp_flat.proofs.PickedParts.{members-begin, members-end, members_more, members_past}
 use Rattle.jp_flat.proofs.picking.picked_members.Goals as goal
@@ -62,12 +63,12 @@ members-preserved-then-not-branch c =
     let l = c.members in
     let names = c.args.names.now in
     let picked = c.in_ok-is_picked.ensures.picked in
-    let done = c.in_ok-find.ensures in
-    let found = done.finds in
+    let done = c.in_ok-pass_value.ensures in
     let k = picked.text in
     let a = c.next_name.new.self.tokens in
-    let r = c.find.new.reader.tokens in
-    let u = shown c.find.new.tables in
+    let r = c.pass_value.new.reader.tokens in
+    let w = shown c.is_picked.new.tables in
+    let passed = done.passes w in
     let other : is_listed names k ≡ false = sym picked.told ∙ c.if-not-branch.true in
     let named : read_key l.reader.tokens ≡ Some (Some k, a) =
     subst (ReadsName l.reader.tokens a) c.in-Some.is c.in_ok-name.ensures.reads k picked.says in
@@ -75,13 +76,12 @@ members-preserved-then-not-branch c =
     let shorter : length r < length l.reader.tokens =
     omega (arith, less, done.shorter) in
     record {
-      so = rw done.members
-          (members_past (is_listed names) c.args.depth c.args.reader.now.tokens l.reader.tokens a r
-          (shown c.args.tables.now) (shown l.tables) (shown c.is_picked.new.tables) u
-          c.len-base.result l.rises c.args.pending.now.members.items l.pending.members.items k
-          found.value named other shorter found.reads found.short c.in_ok-is_picked.ensures.grows done.grows
-          l.invariant.so);
-      others = done.items ∙ l.invariant.others;
+      so = members_past (is_listed names) c.args.depth c.args.reader.now.tokens l.reader.tokens a r
+          (shown c.args.tables.now) (shown l.tables) w w c.len-base.result l.rises
+          c.args.pending.now.members.items l.pending.members.items k passed.value named other
+          shorter passed.reads passed.short c.in_ok-is_picked.ensures.grows (grows_same w)
+          l.invariant.so;
+      others = l.invariant.others;
       text = search rules;
     }
 
