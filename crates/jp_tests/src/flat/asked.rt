@@ -6,7 +6,7 @@ use std::alloc::{AllocError, Global};
 use std::test::Fail;
 
 /// Documents, and what is kept of them where of a list's items the members `a` and `bc` are asked for.
-const OF_ITEMS: [(&str, &str); 14] = [
+const OF_ITEMS: [(&str, &str); 16] = [
     (r#"[{"a":1,"b":2},{"b":3},{}]"#, r#"[{"a":1},{},{}]"#),
     (r#"[{"x":0,"bc":1,"a":2}]"#, r#"[{"a":2,"bc":1}]"#),
     (
@@ -38,6 +38,11 @@ const OF_ITEMS: [(&str, &str); 14] = [
         r#"[{"b":[[],{"c":{"d":"\u00e9\n"}}],"a":1}]"#,
         r#"[{"a":1}]"#,
     ),
+    (
+        r#"[{"b":"\ud83d\ude00\"\\\/\b\f\r\t","\u0062":[{"\"":-1}],"a":1}]"#,
+        r#"[{"a":1}]"#,
+    ),
+    (r#"[{"b":["\u00e9",{"a":"\\"},[[]]],"a":1}]"#, r#"[{"a":1}]"#),
     (
         r#"[ { "b" : true , "a" : -1 } , { "a" : null } ]"#,
         r#"[{"a":-1},{"a":null}]"#,
@@ -74,10 +79,16 @@ const ANYWHERE: [(&str, &str); 15] = [
 ];
 
 /// Bytes that are no document, though what is wrong is not asked for.
-const WRONG: [&str; 10] = [
+const WRONG: [&str; 16] = [
     r#"[{"b":1.5,"a":1}]"#,
     r#"[{"b":[1,],"a":1}]"#,
     r#"[{"b":"\x","a":1}]"#,
+    r#"[{"b":"\ud800","a":1}]"#,
+    r#"[{"b":"\ud83dx","a":1}]"#,
+    r#"[{"b":"\u12g4","a":1}]"#,
+    r#"[{"b":"\"}]"#,
+    r#"[{"b":{"c":["\x"]},"a":1}]"#,
+    r#"[{"b":{"\udc00":1},"a":1}]"#,
     r#"[{"b":01,"a":1}]"#,
     r#"[{"b":1 "a":1}]"#,
     r#"[{"\x":1,"a":1}]"#,
