@@ -63,7 +63,7 @@ pub(crate) fn has_content(bytes: &[u8]) -> bool
     }
 }
 
-/// Where the text goes on behind the escape at an offset.
+/// Where the text goes on behind the escape at an offset. None where there is none.
 #[inline(always)]
 fn past_escape(bytes: &[u8], at: usize) -> Option<usize>
     requires { at < length bytes.now }

@@ -10,7 +10,7 @@ use crate::escapes::has_content;
 use crate::number::number;
 use crate::token::{Spelled, Token};
 
-/// Passes over one value. None where there is none.
+/// Passes over one value. None where there is none, nested no deeper than so, that a document can hold.
 #[cycle(passing)]
 #[inline(always)]
 pub(crate) fn pass_value(reader: &mut Cursor<'_>, depth: usize) -> Option<()>

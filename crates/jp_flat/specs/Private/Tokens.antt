@@ -135,7 +135,7 @@ pub record HasSpan (t : Shown) (s : Span) (o : Option (List ℕ)) : Type 0 where
   pub says : o ≡ Some text
   pub there : text_at t s ≡ Some text
 
--- there is such a text
+-- what is spelled so is a text: its escapes are escapes
 pub record IsSaid (o : Option (List ℕ)) : Type 0 where
   pub text : List ℕ
   pub says : o ≡ Some text
