@@ -102,6 +102,7 @@ impl<'a, 'q, V: Selectable + 'q, M: Matching> Asking<'a, 'q, V, M> {
 
     /// The value that an argument stands for, Nothing where it stands for none.
     #[cycle(filter)]
+    #[inline(always)]
     fn argument_value(
         &self,
         work: &mut Work,

@@ -11,6 +11,7 @@ use jp_select::Comparable;
 use jp_tree::{Literal, Numeral};
 
 /// The value of a literal; a number that is not whole, or beyond 64 bits, has none.
+#[inline(always)]
 pub(crate) fn literal_value<V: Lent>(literal: &Literal) -> Comparable<'_, V>
     ensures { comparable_of V.meaning result ≡ literal_value (literal_of literal.now) }
 {

@@ -91,12 +91,7 @@ impl<'d, 't> FlatValue<'d, 't> {
                 let item = item_at(tables, span, position)?;
                 Some((Step::Index(position as u64), FlatValue { tables, item }))
             }
-            Item::Members(span) => {
-                let member = member_at(tables, span, position)?;
-                let name = text_at(tables, member.name);
-                let item = member.item;
-                Some((Step::Name(name), FlatValue { tables, item }))
-            }
+            Item::Members(span) => FlatValue::member_entry(tables, span, position),
             Item::Null | Item::Bool(_) | Item::Above(_) | Item::Below(_) | Item::Text(_) => None,
         }
     }
@@ -126,7 +121,7 @@ impl<'d, 't> FlatValue<'d, 't> {
     {
         match self.item {
             Item::Members(span) => match place_of(self.tables, span, name) {
-                Some(place) => self.child(place),
+                Some(place) => FlatValue::member_entry(self.tables, span, place),
                 None => None,
             },
             Item::Null
@@ -137,23 +132,51 @@ impl<'d, 't> FlatValue<'d, 't> {
             | Item::List(_) => None,
         }
     }
+
+    /// The member at this position of an object whose members stand at a span, with its step.
+    #[inline(always)]
+    fn member_entry(
+        tables: &'d Tables<'t>,
+        span: Span,
+        position: usize,
+    ) -> Option<(Step<'d>, FlatValue<'d, 't>)>
+        requires { is_flat (shown tables.now) (Members span) ≡ true }
+        ensures entry { option_map flat_entry result
+            ≡ slice_get (entries (meaning (shown tables.now) (Members span))) position }
+        ensures more { OnSome result (position < usize.MAX) }
+    {
+        let member = member_at(tables, span, position)?;
+        let name = text_at(tables, member.name);
+        let item = member.item;
+        Some((Step::Name(name), FlatValue { tables, item }))
+    }
 }
 
-/// Where the member of this name stands among those at a span. It stands apart, so that other values are
-/// told from objects before anything is called.
-#[inline(never)]
+/// Where the member of this name stands among those at a span.
+#[inline(always)]
 fn place_of(tables: &Tables<'_>, span: Span, name: &str) -> Option<usize>
     requires { is_flat (shown tables.now) (Members span) ≡ true }
     ensures { let object = meaning (shown tables.now) (Members span) in
         option_and_then (λ place. slice_get (entries object) place) result ≡ child_entry object (named name.now) }
 {
     let members = members(tables, span)?;
-    if members.len() <= FEW {
-        return match first_named(tables, members, name) {
-            Some(place) => Some(place),
-            None => None,
-        };
+    if members.len() > FEW {
+        return place_among_many(tables, span, name);
     }
+    match first_named(tables, members, name) {
+        Some(place) => Some(place),
+        None => None,
+    }
+}
+
+/// The same by halves. It stands apart, so that objects of few members, as most are, take no call.
+#[inline(never)]
+fn place_among_many(tables: &Tables<'_>, span: Span, name: &str) -> Option<usize>
+    requires { is_flat (shown tables.now) (Members span) ≡ true }
+    ensures { let object = meaning (shown tables.now) (Members span) in
+        option_and_then (λ place. slice_get (entries object) place) result ≡ child_entry object (named name.now) }
+{
+    let members = members(tables, span)?;
     match members.binary_search_by(|member| name_order(tables, member, name)) {
         Ok(place) => Some(place),
         Err(_) => None,

@@ -137,7 +137,7 @@ fn is_named(tables: &Tables<'_>, member: &Named, name: &str) -> bool
     if count != name.len() && !name.is_empty() {
         return false;
     }
-    is_same(name, name_at(tables, member))
+    name.as_bytes() == name_at(tables, member)
 }
 
 /// Whether the text is these bytes.

@@ -1,5 +1,7 @@
 use Rattle.std.proofs.Common.{◌≡◌, ◌≢◌, ◌<◌, ℕ, Bool, true, false, List, [], Option, Some, None}
 use Rattle.std.proofs.Common.{length, unwrap_or, refl, sym, ap, ◌∙◌, arith}
+use Rattle.std.specs.Str.{bytes_eq}
+use Rattle.std.proofs.lemmas.Map.Text.{is_eq-slice_cmp}
 use Rattle.jp_flat.specs.Flat.{Shown, shown, text_at}
 use Rattle.jp_flat.specs.Private.Parts.{is_named, name_in}
 use Rattle.jp_flat.specs.declared.item.Named.{Named}
@@ -33,3 +35,10 @@ returns-then-not-is_empty c =
     grind (arith, c.is_empty.ensures, c.if-not-is_empty.true) in
     sym
     (apart-by-length (shown c.args.tables.now) c.args.name.now c.args.member.now c.if-count-name.true some)
+
+pub returns : goal.returns
+returns c =
+    let name = c.args.name.now in
+    let other = name_in (shown c.args.tables.now) c.args.member.now in
+    c.eq.ensures ∙ ap (λ text. bytes_eq text c.name_at.result.now) c.as_bytes.ensures.value
+    ∙ ap (bytes_eq name) c.name_at.ensures ∙ sym (is_eq-slice_cmp name other)
