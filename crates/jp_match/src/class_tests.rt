@@ -1,7 +1,8 @@
 //! The count of class tests.
 
-ghost use Rattle.std.specs.Prelude.{◌≡◌, ◌&&◌, nat_le};
+ghost use Rattle.std.specs.Prelude.{◌≡◌, ◌+◌, ◌-◌, ◌^◌, ◌&&◌, min, nat_le};
 ghost use Rattle.jp_iregexp.specs.Class.{class_holds as holds_in};
+ghost use Rattle.jp_match.specs.Bounds.{MakesAtMost};
 ghost use Rattle.jp_match.specs.Private.ClassTests.{Makes};
 
 use jp_iregexp::{CharClass, ClassElement};
@@ -36,7 +37,18 @@ impl Tests {
         self.made
     }
 
+    /// Adds the tests that were counted apart.
+    #[inline(always)]
+    pub(crate) fn add(&mut self, apart: &Tests)
+        ensures adds { self.new ≡ min (self.old + apart.now) (2 ^ 64 - 1) }
+        ensures tests { MakesAtMost apart.now self.old self.new }
+    {
+        let Tests { made } = self;
+        *made = made.saturating_add(apart.made);
+    }
+
     /// Whether the class holds the character. Every class test of every matcher goes through here.
+    #[inline(always)]
     pub(crate) fn holds(&mut self, class: &CharClass, c: char) -> bool
         ensures answer { result ≡ holds_in class.now.negated class.now.elements.items c }
         ensures tests { Makes 1 self.old self.new }
@@ -48,15 +60,33 @@ impl Tests {
 }
 
 /// Whether the class holds the character. A class of one range, as most are, is tested in place.
+#[inline(always)]
 pub(crate) fn class_holds(class: &CharClass, c: char) -> bool
     ensures { result ≡ holds_in class.now.negated class.now.elements.items c }
 {
     let [only] = class.elements.as_slice() else {
-        return class.holds(c);
+        return pair_holds(class, c);
     };
     match *only {
         ClassElement::Range(first, last) => is_between(first, last, c) != class.negated,
         ClassElement::Category { .. } => class.holds(c),
+    }
+}
+
+/// Whether the class holds the character. A class of two ranges is tested in place: `.` is none of
+/// two characters, and `[tT]` is one of two.
+#[inline(always)]
+fn pair_holds(class: &CharClass, c: char) -> bool
+    ensures { result ≡ holds_in class.now.negated class.now.elements.items c }
+{
+    let [one, other] = class.elements.as_slice() else {
+        return class.holds(c);
+    };
+    match (*one, *other) {
+        (ClassElement::Range(first, last), ClassElement::Range(from, to)) => {
+            (is_between(first, last, c) | is_between(from, to, c)) != class.negated
+        }
+        _ => class.holds(c),
     }
 }
 

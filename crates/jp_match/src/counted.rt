@@ -1,19 +1,22 @@
 //! Patterns whose positions are counted once for many texts.
 
 ghost use Rattle.std.specs.Prelude.{◌≡◌, ◌^◌, ℕ, Bool, List, IfSome, IsTrue, Some, min};
+ghost use Rattle.std.specs.Option.{ForSome};
+ghost use Rattle.std.specs.Str.{chars};
 ghost use Rattle.jp_iregexp.specs.Tree.{tree};
 ghost use Rattle.jp_iregexp.specs.Language.{Language};
 ghost use Rattle.jp_iregexp.specs.Positions.{positions_of};
 ghost use Rattle.jp_match.specs.Private.Plain.{unrolled};
-ghost use Rattle.jp_match.specs.Private.Beginning.{RulesOut};
+ghost use Rattle.jp_match.specs.Private.Beginning.{AllBegin, RulesOut};
 ghost use Rattle.jp_match.specs.Private.OneWidth.{HasOneWidth, has_width};
-ghost use Rattle.jp_match.specs.Private.OnlyWords.{HasOnlyWords};
+ghost use Rattle.jp_match.specs.Private.OnlyWords.{HasOnlyWords, characters};
 ghost use Rattle.jp_match.specs.Private.Sweeps.{rounds_of};
 
 use crate::counts::{Counts, counts_of};
 use crate::first_chars::FirstChars;
 use crate::one_width::width_of;
 use crate::only_words::OnlyWords;
+use crate::prefix::{begins_with, prefix_of};
 use crate::scan::MOST_POSITIONS;
 use jp_iregexp::Pattern;
 
@@ -47,7 +50,7 @@ impl<'p> Counted<'p> {
 /// A pattern whose positions were counted when it was made, so that a matcher need not count them
 /// for each text. Where it has few words and no others, as `timeout|refused` has two, it keeps them,
 /// so that a matcher looks for them as they are; of other patterns it keeps which characters no word
-/// begins with, and whether all words have one number of characters.
+/// begins with, which characters all begin with, and whether all have one number of characters.
 #[derive(Drop)]
 pub struct CountedPattern {
     pub(crate) pattern: Pattern,
@@ -55,12 +58,15 @@ pub struct CountedPattern {
     only_words: Option<OnlyWords>,
     first_chars: Option<FirstChars>,
     width: Option<u64>,
+    prefix: Option<String>,
     ghost positions: { counts.positions ≡ min (positions_of (tree pattern)) 4097 },
     ghost rounds: { counts.rounds ≡ min (rounds_of (unrolled (tree pattern))) (2 ^ 31) },
     ghost spelled: { (words : List (List ℕ)) → only_words ≡ Some words → HasOnlyWords (tree pattern)
         words },
     ghost begins: { (table : List Bool) → first_chars ≡ Some table → RulesOut table (Language (tree
         pattern)) },
+    ghost headed: { ForSome prefix (λ prefix. AllBegin (characters prefix) (Language (tree
+        pattern))) },
     ghost wide: { (each : ℕ) → width ≡ Some each → IsTrue (has_width (tree pattern) each) },
 }
 
@@ -80,12 +86,17 @@ impl CountedPattern {
             true => width_of(&pattern),
             false => None,
         };
+        let prefix = match only_words {
+            Some(_) => None,
+            None => prefix_of(&pattern),
+        };
         CountedPattern {
             pattern,
             counts,
             only_words,
             first_chars,
             width,
+            prefix,
         }
     }
 
@@ -118,6 +129,18 @@ impl CountedPattern {
         ensures { IfSome result (λ first. RulesOut first.now (Language (tree self.now.pattern))) }
     {
         self.first_chars.as_ref()
+    }
+
+    /// Whether the text is no word of the pattern, as its first characters tell. Where the answer is
+    /// false it may be none, too.
+    #[inline(always)]
+    pub(crate) fn refuses(&self, text: &str) -> bool
+        ensures { IsTrue result → Language (tree self.now.pattern) (chars text.now) → ⊥ }
+    {
+        match &self.prefix {
+            Some(prefix) => !begins_with(text, prefix.as_str()),
+            None => false,
+        }
     }
 
     /// Whether each word of the pattern has the same number of characters. Where the answer is false

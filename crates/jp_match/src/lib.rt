@@ -31,6 +31,7 @@ mod one_class;
 mod one_width;
 mod only_words;
 mod passing;
+mod prefix;
 mod relations;
 mod rows;
 mod scan;

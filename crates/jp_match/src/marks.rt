@@ -28,7 +28,7 @@ use std::alloc::{AllocError, Global};
 /// positions takes at most one class test for each of them and each character. A pattern of more
 /// positions is first cut down to the text's length, and where there still are more it is handed to
 /// [`Images`]. A pattern that was counted before needs no scan where it has few words, or words of
-/// one number of characters.
+/// one number of characters, or where the text does not begin as all its words do.
 #[derive(Clone, Copy, Debug, Default)]
 pub struct Marks;
 
@@ -62,6 +62,7 @@ impl Matching for Marks {
     ) -> Result<bool, AllocError> {
         match pattern.only_words() {
             Some(words) => Ok(words.contain(text)),
+            None if pattern.refuses(text) => Ok(false),
             None if pattern.has_one_width() => Ok(is_word(pattern.pattern(), text, tests)),
             None => whole_of(alloc, pattern.counted(), text, tests),
         }

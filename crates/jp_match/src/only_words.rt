@@ -116,7 +116,7 @@ fn word_of(alloc: Global, branch: &Pattern) -> Option<String>
 
 /// The character that is the only word of a pattern; None for any pattern that is not a class of
 /// that character alone.
-fn only_char(pattern: &Pattern) -> Option<char>
+pub(crate) fn only_char(pattern: &Pattern) -> Option<char>
     ensures { IfSome result (λ c. IsOnlyWord (tree pattern.now) (alone c)) }
 {
     let Pattern::Class(class) = pattern else {

@@ -10,7 +10,7 @@ ghost use Rattle.jp_match.specs.Bounds.{MakesAtMost};
 ghost use Rattle.jp_match.specs.Part.{HasPart};
 ghost use Rattle.jp_match.specs.Private.Beginning.{RulesOut};
 ghost use Rattle.jp_match.specs.Private.OneWidth.{HasOneWidth, Leaves, cut_first, HasFirst};
-ghost use Rattle.jp_match.specs.Private.OneWidth.{HasPrefix};
+ghost use Rattle.jp_match.specs.Private.OneWidth.{HasPrefix, IsAlike};
 
 use crate::class_tests::Tests;
 use crate::empty_word::has_empty_word;
@@ -27,7 +27,7 @@ pub(crate) fn is_word(pattern: &Pattern, text: &str, tests: &mut Tests) -> bool
     if has_ended(text) {
         return has_empty_word(pattern);
     }
-    match after_word(pattern, text, tests) {
+    match after_first_word(pattern, text, tests) {
         Some(rest) => has_ended(rest),
         None => false,
     }
@@ -78,7 +78,33 @@ fn begins_with_word(
     {
         return false;
     }
-    after_word(pattern, text, tests).is_some()
+    after_first_word(pattern, text, tests).is_some()
+}
+
+/// What follows the word of the pattern that the text begins with; None where it begins with none. A
+/// pattern that has one branch is left for that branch.
+#[inline(always)]
+fn after_first_word<'t>(pattern: &Pattern, text: &'t str, tests: &mut Tests) -> Option<&'t str>
+    requires { HasOneWidth (tree pattern.now) }
+    ensures leaves { Leaves (Language (tree pattern.now)) (chars text.now) (option_map (λ s. chars
+        s.now) result) }
+    ensures tests { MakesAtMost (positions_of (tree pattern.now)) tests.old tests.new }
+{
+    after_word(only_branch(pattern), text, tests)
+}
+
+/// The only branch of a pattern that has one, else the pattern.
+#[inline(always)]
+fn only_branch(pattern: &Pattern) -> &Pattern
+    ensures { IsAlike (tree pattern.now) (tree result.now) }
+{
+    let Pattern::Either(branches) = pattern else {
+        return pattern;
+    };
+    match branches.as_slice() {
+        [only] => only,
+        _ => pattern,
+    }
 }
 
 /// What follows the word of the pattern that the text begins with; None where it begins with none.
@@ -92,7 +118,7 @@ fn after_word<'t>(pattern: &Pattern, text: &'t str, tests: &mut Tests) -> Option
 {
     match pattern {
         Pattern::Either(branches) => after_branch(branches, text, tests),
-        Pattern::Sequence(pieces) => after_pieces(pieces, text, tests),
+        Pattern::Sequence(pieces) => after_sequence(pieces, text, tests),
         Pattern::Repeat { inner, least, .. } => after_repeat(inner, *least, text, tests),
         Pattern::Class(class) => after_char(class, text, tests),
     }
@@ -115,8 +141,24 @@ fn after_branch<'t>(parts: &[Pattern], text: &'t str, tests: &mut Tests) -> Opti
     None
 }
 
+/// What follows words of the pieces, one after another. The tests are counted apart, and added behind
+/// the last.
+#[cycle(taking)]
+fn after_sequence<'t>(parts: &[Pattern], text: &'t str, tests: &mut Tests) -> Option<&'t str>
+    requires { HasOneWidth (pieces (map tree parts.now)) }
+    ensures leaves { Leaves (Language (pieces (map tree parts.now))) (chars text.now) (option_map
+        (λ s. chars s.now) result) }
+    ensures tests { MakesAtMost (positions_of (pieces (map tree parts.now))) tests.old tests.new }
+{
+    let mut apart = Tests::new();
+    let left = after_pieces(parts, text, &mut apart);
+    tests.add(&apart);
+    left
+}
+
 /// What follows words of the pieces, one after another.
 #[cycle(taking)]
+#[inline(always)]
 fn after_pieces<'t>(parts: &[Pattern], text: &'t str, tests: &mut Tests) -> Option<&'t str>
     requires { HasOneWidth (pieces (map tree parts.now)) }
     ensures leaves { Leaves (Language (pieces (map tree parts.now))) (chars text.now) (option_map
@@ -141,8 +183,25 @@ fn after_piece<'t>(piece: &Pattern, text: &'t str, tests: &mut Tests) -> Option<
 {
     match piece {
         Pattern::Class(class) => after_char(class, text, tests),
-        _ => after_word(piece, text, tests),
+        _ => after_group(piece, text, tests),
     }
+}
+
+/// What follows a word of a piece that is no class. Its tests are counted apart, so that a count that
+/// no call sees goes on around it.
+#[cycle(taking)]
+#[inline(always)]
+fn after_group<'t>(piece: &Pattern, text: &'t str, tests: &mut Tests) -> Option<&'t str>
+    requires { HasOneWidth (tree piece.now) }
+    ensures leaves { Leaves (Language (tree piece.now)) (chars text.now) (option_map (λ s. chars
+        s.now) result) }
+    ensures tests { MakesAtMost (positions_of (tree piece.now)) tests.old tests.new }
+{
+    let mut apart = Tests::new();
+    let left = after_word(piece, text, &mut apart);
+    tests.add(&apart);
+    let rest = left?;
+    Some(rest)
 }
 
 /// What follows so many words of the inner pattern, one after another.

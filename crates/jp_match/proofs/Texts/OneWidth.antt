@@ -18,7 +18,7 @@ use Rattle.jp_iregexp.specs.Language.{Language, Power, Concatenation, IsAtMost}
 use Rattle.jp_match.specs.Part.{HasPart}
 use Rattle.jp_match.specs.Private.Beginning.{NeverBegins}
 use Rattle.jp_match.specs.Private.OneWidth.{first_width, takes_one_count, has_width, HasOneWidth}
-use Rattle.jp_match.specs.Private.OneWidth.{IsWidthOf, IsFollowed, Leaves, cut_first}
+use Rattle.jp_match.specs.Private.OneWidth.{IsWidthOf, IsAlike, IsFollowed, Leaves, cut_first}
 use Rattle.jp_match.specs.Private.OneWidth.{HasFirst, HasPrefix}
 
 -- ---- what a width says of the parts
@@ -214,6 +214,37 @@ leaves-others a b text left none others = record {
     λ e.
         let f = (others.exactly r).1 e in
         record { word = f.word; is = f.is; holds = inr f.holds },
+  );
+}
+
+pub alike-self : (t : Tree) → IsAlike t t
+alike-self t = record { same = λ word. (λ h. h, λ h. h); positions = refl; wide = λ w. w }
+
+pub alike-branch : (t : Tree) → IsAlike (branches (t ∷ [])) t
+alike-branch t = record {
+  same = λ word. (
+    λ h. elim h [ inl holds ↦ holds | inr none ↦ absurd none ],
+    λ holds. inl holds,
+  );
+  positions = omega arith;
+  wide = λ w. record {
+    width = w.width;
+    each = (and_parts (has_width t w.width) true w.each).0;
+  };
+}
+
+pub leaves-alike : (t other : Tree) (text : List ℕ) (left : Option (List ℕ)) → IsAlike t other
+    → Leaves (Language other) text left → Leaves (Language t) text left
+leaves-alike t other text left alike leaves = record {
+  exactly = λ r. (
+    λ f. (leaves.exactly r).0 (record {
+      word = f.word;
+      is = f.is;
+      holds = (alike.same f.word).0 f.holds;
+    }),
+    λ e.
+        let f = (leaves.exactly r).1 e in
+        record { word = f.word; is = f.is; holds = (alike.same f.word).1 f.holds },
   );
 }
 

@@ -1,10 +1,10 @@
 -- Patterns that have a few words, which are looked for as they are.
-use Rattle.std.proofs.Common.{◌≡◌, ◌↔◌, inl, inr, ℕ, suc, ◌+◌, ◌<◌, Bool, true, false}
-use Rattle.std.proofs.Common.{List, [], ◌∷◌, ◌++◌, map, take, length, get_or, nat_eq, nat_le}
+use Rattle.std.proofs.Common.{◌≡◌, ◌↔◌, inl, inr, ℕ, zero, suc, ◌+◌, ◌<◌, Bool, true, false}
+use Rattle.std.proofs.Common.{List, [], ◌∷◌, ◌++◌, map, take, drop, length, get_or, nat_eq, nat_le}
 use Rattle.std.proofs.Common.{◌&&◌, ◌||◌, refl, sym, ap, ◌∙◌, subst, eq-eqb, arith}
 use Rattle.std.specs.Bool.{IsTrue}
 use Rattle.std.specs.Char.{encode_utf8}
-use Rattle.std.specs.List.{list_any, Any}
+use Rattle.std.specs.List.{list_any, Any, starts_with}
 use Rattle.std.specs.Str.{chars, encode_utf8_all, bytes_eq, IsUtf8, IsCharBoundary}
 use Rattle.std.specs.Str.Iter.{HasSubslice}
 use Rattle.std.proofs.lemmas.Bool.{and_parts, and_from, or_cases, or_left, or_right, leb-true}
@@ -12,7 +12,8 @@ use Rattle.std.proofs.lemmas.Bool.{le-leb}
 use Rattle.std.proofs.lemmas.Bool.{eqb-true}
 use Rattle.std.proofs.lemmas.List.{append-nil, take_at, length-append, map-append, take_more}
 use Rattle.std.proofs.lemmas.List.Folds.{Any-from_list_any, list_any_at}
-use Rattle.std.proofs.lemmas.Slice.Eq.{bytes_eq-Decides}
+use Rattle.std.proofs.lemmas.Bool.Decides.{Decides-eqb}
+use Rattle.std.proofs.lemmas.Slice.Eq.{bytes_eq-Decides, starts_is}
 use Rattle.std.proofs.lemmas.Str.{chars-nil, chars-append, encodes-append, encodes-chars}
 use Rattle.std.proofs.lemmas.Str.{chars_from_encodes}
 use Rattle.std.proofs.lemmas.Str.{IsUtf8-take, IsCharBoundary-start}
@@ -26,6 +27,7 @@ use Rattle.jp_iregexp.proofs.Membership.{words_are_tested}
 use Rattle.jp_match.specs.Part.{HasPart}
 use Rattle.jp_match.specs.Private.OnlyWords.{IsOnlyWord, AreOnlyWords, HasOnlyWords}
 use Rattle.jp_match.specs.Private.OnlyWords.{is_prefix, is_part, alone}
+use Rattle.jp_match.specs.Private.Beginning.{AllBegin}
 
 -- ---- one character
 
@@ -253,6 +255,45 @@ pub mapped_any : {X Y : Type 0} (p : Y → Bool) (f : X → Y) (xs : List X)
     → list_any (λ x. p (f x)) xs ≡ list_any p (map f xs)
 mapped_any p f [] = refl
 mapped_any p f (x ∷ xs) = ap (λ b. p (f x) || b) (mapped_any p f xs)
+
+-- ---- what every word begins with
+
+-- pieces of one character each stand at the front of each word
+pub begin-pieces : (parts : List Pattern) (i : ℕ) (prefix : List ℕ)
+    → AreOnlyWords (map tree (take i parts)) (map alone prefix)
+    → AllBegin prefix (Language (pieces (map tree parts)))
+begin-pieces parts i [] all word h = (prefix_is [] word).1 (word, refl)
+begin-pieces [] zero (c ∷ prefix) all word h = absurd all
+begin-pieces [] (suc i) (c ∷ prefix) all word h = absurd all
+begin-pieces (p ∷ parts) zero (c ∷ prefix) all word h = absurd all
+begin-pieces (p ∷ parts) (suc i) (c ∷ prefix) all word h =
+    let first : h.prefix ≡ alone c = (all.0.is h.prefix).0 h.first in
+    let (after, is) = (prefix_is prefix h.suffix).0 (begin-pieces parts i prefix all.1 h.suffix
+    h.second) in
+    let whole : word ≡ c ∷ (prefix ++ after) = h.is ∙ ap (λ x. x ++ h.suffix) first ∙ ap (λ x. c ∷
+    x) is in
+    (prefix_is (c ∷ prefix) word).1 (after, whole)
+
+pub begin-branch : (t : Tree) (prefix : List ℕ) → AllBegin prefix (Language t)
+    → AllBegin prefix (Language (branches (t ∷ [])))
+begin-branch t prefix begin word (inl h) = begin word h
+begin-branch t prefix begin word (inr h) = absurd h
+
+-- a comparison of the bytes answers whether the text begins with the word
+pub finds_prefix : (found : Bool) (word text : List ℕ) → IsUtf8 text → IsUtf8 word
+    → found ≡ starts_with nat_eq text word → found ≡ is_prefix (chars word) (chars text)
+finds_prefix found word text one two compared =
+    let starts = starts_is Decides-eqb text word found compared in
+    bools_same _ _
+    (λ h. (prefix_is (chars word) (chars text)).1 (
+      chars (drop (length word) text),
+      ap chars (starts.0 h) ∙ chars-append word (drop (length word) text) two,
+    ))
+    (λ h.
+    let (after, is) = (prefix_is (chars word) (chars text)).0 h in
+    starts.1 (encode_utf8_all after)
+    (sym (encodes-chars text one) ∙ ap encode_utf8_all is ∙ encodes-append (chars word)
+    after ∙ ap (λ x. x ++ encode_utf8_all after) (encodes-chars word two)))
 
 -- ---- what is answered
 

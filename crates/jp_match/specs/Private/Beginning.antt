@@ -1,5 +1,6 @@
--- Characters that no word of a language begins with.
+-- Characters that no word of a language begins with, and those that each begins with.
 use Rattle.std.specs.Prelude.{ℕ, Bool, IsTrue, false, List, [], ◌∷◌, get_or}
+use Rattle.jp_match.specs.Private.OnlyWords.{is_prefix}
 
 -- no word begins with the character, and none is empty
 pub record NeverBegins (L : List ℕ → Type 0) (c : ℕ) : Type 0 where
@@ -19,3 +20,7 @@ IsWithin table other = (c : ℕ) → IsTrue (get_or table c false) → IsTrue (g
 pub record Admits (L : List ℕ → Type 0) (before after : List Bool) : Type 0 where
   pub fewer : IsWithin after before
   pub never : RulesOut after L
+
+-- each word of a language begins with a text
+abbrev pub AllBegin : List ℕ → (List ℕ → Type 0) → Type 0
+AllBegin prefix L = (word : List ℕ) → L word → IsTrue (is_prefix prefix word)

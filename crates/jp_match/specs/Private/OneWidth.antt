@@ -1,6 +1,8 @@
 -- Patterns whose words all have one width, and what follows a word in a text.
 use Rattle.std.specs.Prelude.{◌≡◌, ◌↔◌, ℕ, ◌+◌, ◌*◌, Bool, true, false, ◌&&◌, nat_eq, IsTrue}
 use Rattle.std.specs.Prelude.{List, [], ◌∷◌, ◌++◌, Option, None, Some}
+use Rattle.jp_iregexp.specs.Language.{Language}
+use Rattle.jp_iregexp.specs.Positions.{positions_of}
 use Rattle.jp_iregexp.specs.Tree.{Tree, class, nothing, either, empty, sequence, repeat}
 
 -- how many characters a word has that takes the first of branches, and of repeats the fewest words
@@ -38,6 +40,12 @@ pub record HasOneWidth (t : Tree) : Type 0 where
 pub record IsWidthOf (t : Tree) (width : ℕ) : Type 0 where
   pub first : width ≡ first_width t
   pub each : IsTrue (has_width t width)
+
+-- two patterns have the same words and as many positions, and the words of both have one width
+pub record IsAlike (t other : Tree) : Type 0 where
+  pub same : (word : List ℕ) → Language t word ↔ Language other word
+  pub positions : positions_of t ≡ positions_of other
+  pub wide : HasOneWidth t → HasOneWidth other
 
 -- a text is a word of a language, and what follows it
 pub record IsFollowed (L : List ℕ → Type 0) (text rest : List ℕ) : Type 0 where

@@ -20,7 +20,7 @@ after_word-returns-in-Either t c =
 pub after_word-returns-in-Sequence : goal.after_word-returns-in-Sequence
 after_word-returns-in-Sequence t c =
     rw (sequence_is _ _ _ c.in-Sequence.is c.deref-in-Sequence.ensures.value).same
-    c.after_pieces.ensures
+    c.after_sequence.ensures
 
 pub after_word-returns-in-Class : goal.after_word-returns-in-Class
 after_word-returns-in-Class t c = rw (c.in-Class.is, tree_class) c.after_char.ensures
@@ -32,8 +32,8 @@ after_word-after_branch-requires t c =
       subst HasOneWidth is.same c.requires.1.1,
     )
 
-pub after_word-after_pieces-requires : goal.after_word-after_pieces-requires
-after_word-after_pieces-requires t c =
+pub after_word-after_sequence-requires : goal.after_word-after_sequence-requires
+after_word-after_sequence-requires t c =
     let is = sequence_is _ _ _ c.in-Sequence.is c.deref-in-Sequence.ensures.value in (
       omega (arith, c.requires.1.0, is.smaller),
       subst HasOneWidth is.same c.requires.1.1,

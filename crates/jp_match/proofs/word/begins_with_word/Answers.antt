@@ -9,9 +9,9 @@ returns-clause-only c =
     c.if-rule_out.true)) c.requires.first h
 
 pub returns-2-clause-begins : goal.returns-2-clause-begins
-returns-2-clause-begins c = λ e. prefix-found _ _ _ c.after_word.result c.after_word.ensures.leaves
+returns-2-clause-begins c = λ e. prefix-found _ _ _ c.after_first_word.result c.after_first_word.ensures.leaves
     (sym c.is_some.ensures ∙ e)
 
 pub returns-2-clause-only : goal.returns-2-clause-only
-returns-2-clause-only c = λ e h. no-prefix _ _ _ c.after_word.result c.after_word.ensures.leaves
+returns-2-clause-only c = λ e h. no-prefix _ _ _ c.after_first_word.result c.after_first_word.ensures.leaves
     (sym c.is_some.ensures ∙ e) h
