@@ -1,5 +1,6 @@
 -- The files of lemmas. `pub` are those that proofs of other crates may name.
 pub mod Ahead
+pub mod Alone
 pub mod Begun
 pub mod Blocks
 pub mod ByKeys

@@ -1,6 +1,6 @@
 //! Lists and objects whose parts are all read.
 
-ghost use Rattle.std.specs.Prelude.{◌≡◌, ◌+◌, ◌^◌, ◌<◌, ◌≤◌, ℕ, suc, true, IfSome, IsTrue};
+ghost use Rattle.std.specs.Prelude.{◌≡◌, ◌+◌, ◌^◌, ◌<◌, ◌≤◌, ◌∷◌, ℕ, suc, true, IfSome, IsTrue};
 ghost use Rattle.std.specs.Prelude.{List, [], OnSome, Some, drop, length, take};
 ghost use Rattle.std.specs.Map.{keys_of};
 ghost use Rattle.jp_document.specs.Value.{Value, members_of, names_rise, object};
@@ -117,6 +117,18 @@ pub(crate) fn object_of(
 {
     let span = span_of(tables.members.len(), members.len() - base)?;
     move_parts(&mut tables.members, members, base)?;
+    Some(Item::Members(span))
+}
+
+/// The object of one member, a new one of the tables.
+#[inline(always)]
+pub(crate) fn object_of_one(tables: &mut Tables<'_>, member: Named) -> Option<Item>
+    ensures object { IfSome result (IsObjectOf (member ∷ []) (shown tables.old)
+        (shown tables.new)) }
+    ensures grows { OnSome result (Grows (shown tables.old) (shown tables.new)) }
+{
+    let span = span_of(tables.members.len(), 1)?;
+    tables.members.push(member).ok()?;
     Some(Item::Members(span))
 }
 

@@ -1,9 +1,9 @@
 //! A point in a text, and the token that stands there.
 
-ghost use Rattle.std.specs.Prelude.{◌≡◌, ◌∷◌, [], true, IfSome, OnSome, Some};
+ghost use Rattle.std.specs.Prelude.{◌≡◌, ◌∷◌, [], true, IfSome, None, OnSome, Some};
 ghost use Rattle.std.specs.Bool.{MatchBool};
 ghost use Rattle.json.specs.Align.{is_good};
-ghost use Rattle.json.specs.Json.{after_end_array};
+ghost use Rattle.json.specs.Json.{after_end_array, read_key};
 ghost use Rattle.json.specs.Lex.{may_begin, may_close, tokens};
 ghost use Rattle.jp_flat.specs.Private.Tokens.{ReadsName, IsSpelledIn, TokenHolds, token_of, expected_of};
 
@@ -101,6 +101,23 @@ impl<'t> Cursor<'t> {
     {
         let at = self.point.at;
         if at < self.bytes.len() && self.bytes[at] == b']' && may_close(self.point.expected) {
+            let point = passed(self.bytes, at + 1);
+            self.point.at = point.at;
+            self.point.expected = point.expected;
+            return true;
+        }
+        false
+    }
+
+    /// Takes the end of an object, if it stands here.
+    #[inline(always)]
+    pub(crate) fn take_end_object(&mut self) -> bool
+        ensures takes { MatchBool result (read_key self.old.tokens ≡ Some (None, self.new.tokens))
+            (self.new ≡ self.old) }
+        ensures text { self.new.text ≡ self.old.text }
+    {
+        let at = self.point.at;
+        if at < self.bytes.len() && self.bytes[at] == b'}' && may_close(self.point.expected) {
             let point = passed(self.bytes, at + 1);
             self.point.at = point.at;
             self.point.expected = point.expected;

@@ -1,13 +1,15 @@
 //! Values from the tokens of a text, into tables. What is no document, and what fits no table, is
 //! left to others.
 
-ghost use Rattle.std.specs.Prelude.{◌≡◌, ◌≤◌, ◌<◌, ◌∷◌, [], IfSome, OnSome, length, true};
+ghost use Rattle.std.specs.Prelude.{◌≡◌, ◌≤◌, ◌<◌, ◌∷◌, [], IfSome, None, OnSome, Some, length, true};
+ghost use Rattle.std.specs.Bool.{MatchBool};
 ghost use Rattle.json.specs.Align.{is_good};
+ghost use Rattle.json.specs.Json.{read_key};
 ghost use Rattle.jp_flat.specs.Flat.{Grows, shown};
 ghost use Rattle.jp_flat.specs.Private.Reading.{ReadsFlat, ReadsFlatItems, ReadsFlatMembers};
 ghost use Rattle.jp_flat.specs.Private.Tokens.{TokenHolds, token_of};
 
-use crate::closing::{close_list, close_object, list_from};
+use crate::closing::{close_list, close_object, list_from, object_of_one};
 use crate::cursor::Cursor;
 use crate::item::{Item, Named};
 use crate::leaf::{leaf, leaves};
@@ -235,6 +237,8 @@ fn items(
     Some(list)
 }
 
+/// Reads the members of an object: one that stands alone into the tables, and else to those that are
+/// being read.
 #[cycle(reading)]
 fn members(
     tables: &mut Tables<'_>,
@@ -257,7 +261,12 @@ fn members(
         rises = still_rises(rises, tables, &pending.members, base, name);
         let span = text_span(tables, name)?;
         let item = value(tables, pending, reader, depth)?;
-        pending.members.push(Named { name: span, item }).ok()?;
+        let member = Named { name: span, item };
+        if ends_alone(reader, &pending.members, base) {
+            let object = object_of_one(tables, member)?;
+            return Some(object);
+        }
+        pending.members.push(member).ok()?;
     }
     let object = close_object(
         tables,
@@ -267,4 +276,19 @@ fn members(
         rises,
     )?;
     Some(object)
+}
+
+/// Takes the end of an object of which one member was read, and not put to those from the base on, if
+/// it stands here and there are none of them.
+#[inline(always)]
+fn ends_alone(reader: &mut Cursor<'_>, members: &[Named], base: usize) -> bool
+    ensures ends { MatchBool result (read_key reader.old.tokens ≡ Some (None, reader.new.tokens))
+        (reader.new ≡ reader.old) }
+    ensures alone { result ≡ true → base ≡ length members.now }
+    ensures text { reader.new.text ≡ reader.old.text }
+{
+    if members.len() != base {
+        return false;
+    }
+    reader.take_end_object()
 }

@@ -9,6 +9,7 @@ use Rattle.jp_flat.specs.Private.Tokens.{ReadsName, said, token_of}
 use Rattle.jp_flat.specs.declared.item.Named.{Named}
 use Rattle.jp_flat.proofs.Leaves.{flat-list, flat-object, leaf-read}
 use Rattle.jp_flat.proofs.Loops.{items_begin, items_end, items_more, leaves_end, leaves_grow}
+use Rattle.jp_flat.proofs.Alone.{members_lone, none_behind}
 use Rattle.jp_flat.proofs.Loops.{above_said, members_begin, members_end, members_more}
 use Rattle.jp_flat.proofs.reading.+reading.Goals as goal
 
@@ -124,6 +125,39 @@ members-members-init t c = record {
   text = search rules;
 }
 
+pub members-returns-then-ends_alone-clause-reads : goal.members-returns-then-ends_alone-clause-reads
+members-returns-then-ends_alone-clause-reads t c =
+    let l = c.members in
+    let spanned = c.in_ok-span.ensures.spanned in
+    let k = spanned.text in
+    let a = c.next_name.new.self.tokens in
+    let r = c.value.new.reader.tokens in
+    let done = c.in_ok-item.ensures in
+    let p : Named = record { name = c.in_ok-span.span; item = c.in_ok-item.item } in
+    let named : read_key l.reader.tokens ≡ Some (Some k, a) =
+    subst (ReadsName l.reader.tokens a) c.in-Some.is c.in_ok-name.ensures.reads k spanned.says in
+    let less = read_key-shorter l.reader.tokens (Some k) a named in
+    let lesser = done.shorter in
+    let shorter : length r < length l.reader.tokens = omega arith in
+    let over : read_key r ≡ Some (None, c.ends_alone.new.reader.tokens) = grind arith in
+    let alone : c.len-base.result ≡ length l.pending.members.items = grind arith in
+    members_lone c.args.depth c.args.reader.now.tokens l.reader.tokens a r
+    c.ends_alone.new.reader.tokens (shown c.args.tables.now) (shown l.tables)
+    (shown c.text_span.new.tables) (shown c.value.new.tables) (shown c.object_of_one.new.tables)
+    c.len-base.result l.rises c.args.pending.now.members.items l.pending.members.items k p
+    c.in_ok-object.object named shorter done.reads spanned.there c.in_ok-span.ensures.grows done.grows
+    over alone c.in_ok-object.ensures.object l.invariant.so
+
+pub members-returns-then-ends_alone-clause-members :
+    goal.members-returns-then-ends_alone-clause-members
+members-returns-then-ends_alone-clause-members t c =
+    let l = c.members in
+    let so = l.invariant.so in
+    let alone : c.len-base.result ≡ length l.pending.members.items = grind arith in
+    c.in_ok-item.ensures.members
+    ∙ none_behind c.len-base.result c.args.pending.now.members.items so.new l.pending.members.items
+    so.pushed so.at alone
+
 pub members-members-preserved : goal.members-members-preserved
 members-members-preserved t c =
     let l = c.members in
@@ -138,9 +172,11 @@ members-members-preserved t c =
     let less = read_key-shorter l.reader.tokens (Some k) a named in
     let lesser = done.shorter in
     let shorter : length r < length l.reader.tokens = omega arith in
+    let same : c.ends_alone.new.reader.tokens ≡ r = grind arith in
     let pushed : c.push.new.self.items ≡ l.pending.members.items ++ p ∷ [] = search rules in
     record {
       so = rw pushed
+          (rw same
           (members_more c.args.depth c.args.reader.now.tokens l.reader.tokens a r (shown c.args.tables.now)
           (shown l.tables) (shown c.text_span.new.tables) (shown c.value.new.tables) c.len-base.result
           l.rises c.still_rises-rises.result c.args.pending.now.members.items
@@ -148,7 +184,7 @@ members-members-preserved t c =
           c.in_ok-span.ensures.grows done.grows c.still_rises-rises.ensures.rose
           (λ rose. above_said (shown l.tables) (drop c.len-base.result l.pending.members.items)
           (said c.in-Some.name) k spanned.says
-          (rw (← c.deref.ensures.value) (c.still_rises-rises.ensures.above rose))) l.invariant.so);
+          (rw (← c.deref.ensures.value) (c.still_rises-rises.ensures.above rose))) l.invariant.so));
       others = done.items ∙ l.invariant.others;
       text = search rules;
     }
@@ -159,5 +195,5 @@ members-returns-clause-reads t c =
     let over : read_key l.reader.tokens ≡ Some (None, c.next_name.new.self.tokens) = grind arith in
     members_end c.args.depth c.args.reader.now.tokens l.reader.tokens c.next_name.new.self.tokens
     (shown c.args.tables.now) (shown l.tables) (shown c.close_object.new.tables) c.len-base.result
-    l.rises c.args.pending.now.members.items l.pending.members.items c.in_ok-object.object over
-    c.in_ok-object.ensures.object l.invariant.so
+    l.rises c.args.pending.now.members.items l.pending.members.items c.in_ok-object-2.object over
+    c.in_ok-object-2.ensures.object l.invariant.so
