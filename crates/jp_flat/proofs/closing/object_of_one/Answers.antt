@@ -1,4 +1,4 @@
-use Rattle.std.proofs.Common.{◌≡◌, ◌++◌, ◌∷◌, [], length, refl, rules}
+use Rattle.std.proofs.Common.{◌≡◌, ◌++◌, ◌∷◌, [], length, rules}
 use Rattle.jp_flat.specs.Flat.{Grows, shown}
 use Rattle.jp_flat.proofs.Growth.{object_closed}
 use Rattle.jp_flat.proofs.closing.object_of_one.Goals as goal
