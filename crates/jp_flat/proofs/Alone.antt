@@ -13,9 +13,9 @@ use Rattle.jp_flat.specs.declared.item.Item.{Item}
 use Rattle.jp_flat.specs.declared.item.Named.{Named}
 use Rattle.jp_flat.proofs.Loops.{MembersSoFar, cut_back, cut_front, members_end, members_more}
 
-put_one : (f : Named → Option (List ℕ × Value)) (m : Named) (ms : List (List ℕ × Value))
+put-one : (f : Named → Option (List ℕ × Value)) (m : Named) (ms : List (List ℕ × Value))
     → all_of f (m ∷ []) ≡ Some ms → put_all [] ms ≡ ms
-put_one f m ms is =
+put-one f m ms is =
     let h = some_from_both (λ y ys. y ∷ ys) (f m) (Some []) ms is in
     subst (λ ws. put_all [] ws ≡ ws) (ap (λ ys. h.0 ∷ ys) (same_Some [] h.1 h.3) ∙ h.4) refl
 
@@ -35,12 +35,12 @@ members_lone depth initial ts a r e t s w u v base rises old all name m i key le
     (cut_back base all (m ∷ []) (all ++ m ∷ []) refl alone) is in
     closed n ms this
     ∙ ap (λ ws. Some (object (members_of ws)))
-    (sym (put_one (member_with (flat_value n u) u) m ms this)))
+    (sym (put-one (member_with (flat_value n u) u) m ms this)))
     (members_more depth initial ts a r t s w u base rises false old all name m key less x at one two
     (λ never. absurd (cc)) (λ never. absurd (cc)) so)
 
 -- where nothing was put to the old members, they are all there are
-pub none_behind : (base : ℕ) (old new all : List Named) → all ≡ old ++ new → base ≡ length old
+pub none-behind : (base : ℕ) (old new all : List Named) → all ≡ old ++ new → base ≡ length old
     → base ≡ length all → all ≡ old
-none_behind base old new all pushed at alone =
+none-behind base old new all pushed at alone =
     sym (take-length all) ∙ ap (λ n. take n all) (sym alone) ∙ cut_front base old new all pushed at

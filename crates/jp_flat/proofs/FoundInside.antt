@@ -176,15 +176,15 @@ items_end depth initial ts r t u s index found over so = record {
 
 -- ---- members
 
-swap_tests : {A : Type 0} (b c : Bool) (x y z : A) → (b ≡ true → c ≡ true → ⊥)
+swap-tests : {A : Type 0} (b c : Bool) (x y z : A) → (b ≡ true → c ≡ true → ⊥)
     → cond c y (cond b x z) ≡ cond b x (cond c y z)
-swap_tests true true x y z apart = absurd (apart refl refl)
-swap_tests true false x y z apart = refl
-swap_tests false c x y z apart = refl
+swap-tests true true x y z apart = absurd (apart refl refl)
+swap-tests true false x y z apart = refl
+swap-tests false c x y z apart = refl
 
-same_test : {A : Type 0} (b : Bool) (x y z : A) → cond b x z ≡ cond b x (cond b y z)
-same_test true x y z = refl
-same_test false x y z = refl
+same-test : {A : Type 0} (b : Bool) (x y z : A) → cond b x z ≡ cond b x (cond b y z)
+same-test true x y z = refl
+same-test false x y z = refl
 
 pub is_same : (q k : List ℕ) → is_eq (bytes_cmp q k) ≡ true → q ≡ k
 is_same q k is = exact_bytes q k (by (bytes_cmp q k) is)
@@ -210,11 +210,11 @@ put_by : (q k : List ℕ) (v : Value) (m : List ℕ × Value) (ms : List (List �
 put_by q k v m ms Less is later = rw is refl
 put_by q k v m ms Equal is later =
     let same : k ≡ m.0 = exact_bytes k m.0 is in
-    rw is (rw same (same_test (is_eq (bytes_cmp q m.0)) (Some v) (Some m.1)
+    rw is (rw same (same-test (is_eq (bytes_cmp q m.0)) (Some v) (Some m.1)
     (lookup (eq_by_cmp bytes_cmp q) ms)))
 put_by q k v m ms Greater is later =
     rw is (ap (cond (is_eq (bytes_cmp q m.0)) (Some m.1)) later
-    ∙ swap_tests (is_eq (bytes_cmp q k)) (is_eq (bytes_cmp q m.0)) (Some v) (Some m.1)
+    ∙ swap-tests (is_eq (bytes_cmp q k)) (is_eq (bytes_cmp q m.0)) (Some v) (Some m.1)
     (lookup (eq_by_cmp bytes_cmp q) ms)
     (λ one two. apart k m.0 is (sym (is_same q k one) ∙ is_same q m.0 two)))
 

@@ -312,16 +312,16 @@ record TextInside (t : Shown) (p : Span) : Type 0 where
   there : text_at t p ≡ Some held
   is : meaning t (code.Text p) ≡ text held
 
-text_inside : (t : Shown) (p : Span) → is_flat t (code.Text p) ≡ true → TextInside t p
+text-inside : (t : Shown) (p : Span) → is_flat t (code.Text p) ≡ true → TextInside t p
 unfolding flat_value
-text_inside t p sound =
+text-inside t p sound =
     let h = some_from_map text (text_at t p) (meaning t (code.Text p))
     (has_value t (code.Text p) sound) in
     record { held = h.0; there = h.1; is = sym h.2 }
 
 pub text-held : (t : Shown) (p : Span) → is_flat t (code.Text p) ≡ true → HoldsText t p
 text-held t p sound =
-    let x = text_inside t p sound in
+    let x = text-inside t p sound in
     record {
       text = x.held;
       at = x.there;
@@ -332,7 +332,7 @@ text-held t p sound =
 pub text-is : (t : Shown) (p : Span) (s : List ℕ) → is_flat t (code.Text p) ≡ true
     → Some s ≡ text_at t p → text s ≡ meaning t (code.Text p)
 text-is t p s sound is =
-    let x = text_inside t p sound in
+    let x = text-inside t p sound in
     ap text (same_Some s x.held (is ∙ x.there)) ∙ sym x.is
 
 pub list-bare : (t : Shown) (p : Span) → is_flat t (code.List p) ≡ true
@@ -361,7 +361,7 @@ leaf-entries t i sound (inr (inr (inr (inl e)))) =
     ap (λ j. entries (meaning t j)) e.1 ∙ ap entries (below-is t e.0)
 leaf-entries t i sound (inr (inr (inr (inr e)))) =
     ap (λ j. entries (meaning t j)) e.1
-    ∙ ap entries (text_inside t e.0 (subst (λ j. is_flat t j ≡ true) e.1 sound)).is
+    ∙ ap entries (text-inside t e.0 (subst (λ j. is_flat t j ≡ true) e.1 sound)).is
 
 -- a leaf, or of one sort of values
 abbrev pub IsLeafOr : (Span → Item) → Item → Type 0
@@ -370,18 +370,18 @@ IsLeafOr sort i =
     (((h : Halves) × (i ≡ code.Below h)) ⊎ (((p : Span) × (i ≡ code.Text p)) ⊎
     ((p : Span) × (i ≡ sort p))))))
 
-leaf_or : (sort : Span → Item) (i : Item) → IsLeafOr sort i
+leaf-or : (sort : Span → Item) (i : Item) → IsLeafOr sort i
     → IsLeaf i ⊎ ((p : Span) × (i ≡ sort p))
-leaf_or sort i (inl e) = inl (inl e)
-leaf_or sort i (inr (inl e)) = inl (inr (inl e))
-leaf_or sort i (inr (inr (inl e))) = inl (inr (inr (inl e)))
-leaf_or sort i (inr (inr (inr (inl e)))) = inl (inr (inr (inr (inl e))))
-leaf_or sort i (inr (inr (inr (inr (inl e))))) = inl (inr (inr (inr (inr e))))
-leaf_or sort i (inr (inr (inr (inr (inr e))))) = inr e
+leaf-or sort i (inl e) = inl (inl e)
+leaf-or sort i (inr (inl e)) = inl (inr (inl e))
+leaf-or sort i (inr (inr (inl e))) = inl (inr (inr (inl e)))
+leaf-or sort i (inr (inr (inr (inl e)))) = inl (inr (inr (inr (inl e))))
+leaf-or sort i (inr (inr (inr (inr (inl e))))) = inl (inr (inr (inr (inr e))))
+leaf-or sort i (inr (inr (inr (inr (inr e))))) = inr e
 
 pub no-item : (t : Shown) (i : Item) (k : ℕ) → is_flat t i ≡ true → IsLeafOr code.Members i
     → child (meaning t i) (nth k) ≡ None
-no-item t i k sound other = elim (leaf_or code.Members i other) [
+no-item t i k sound other = elim (leaf-or code.Members i other) [
   | inl leaf ↦ ap (lookup (is_at (step_cmp (nth k)))) (leaf-entries t i sound leaf)
   | inr e ↦
       ap (λ j. child (meaning t j) (nth k)) e.1
@@ -392,7 +392,7 @@ no-item t i k sound other = elim (leaf_or code.Members i other) [
 
 pub no-member : (t : Shown) (i : Item) (q : List ℕ) → is_flat t i ≡ true → IsLeafOr code.List i
     → child (meaning t i) (named q) ≡ None
-no-member t i q sound other = elim (leaf_or code.List i other) [
+no-member t i q sound other = elim (leaf-or code.List i other) [
   | inl leaf ↦ ap (lookup (is_at (step_cmp (named q)))) (leaf-entries t i sound leaf)
   | inr e ↦
       ap (λ j. child (meaning t j) (named q)) e.1
@@ -412,11 +412,11 @@ leaf-length t i sound (inr (inr (inr (inl e)))) =
     ap (λ j. list_length (meaning t j)) e.1 ∙ ap list_length (below-is t e.0)
 leaf-length t i sound (inr (inr (inr (inr e)))) =
     ap (λ j. list_length (meaning t j)) e.1
-    ∙ ap list_length (text_inside t e.0 (subst (λ j. is_flat t j ≡ true) e.1 sound)).is
+    ∙ ap list_length (text-inside t e.0 (subst (λ j. is_flat t j ≡ true) e.1 sound)).is
 
 pub no-length : (t : Shown) (i : Item) → is_flat t i ≡ true → IsLeafOr code.Members i
     → list_length (meaning t i) ≡ None
-no-length t i sound other = elim (leaf_or code.Members i other) [
+no-length t i sound other = elim (leaf-or code.Members i other) [
   | inl leaf ↦ leaf-length t i sound leaf
   | inr e ↦
       ap (λ j. list_length (meaning t j)) e.1

@@ -78,17 +78,17 @@ missed t p q xs i sound there miss =
     ∙ absent_name (seen_member t) q xs i sorted miss
 
 -- where each member was looked at
-pub missed_each : (t : Shown) (p : Span) (q : List ℕ) (xs : List Named) → is_flat t (code.Members p) ≡ true
+pub missed-each : (t : Shown) (p : Span) (q : List ℕ) (xs : List Named) → is_flat t (code.Members p) ≡ true
     → piece t.members p.first p.count ≡ Some xs → NamesAt t q xs None
     → child (meaning t (code.Members p)) (named q) ≡ None
-missed_each t p q xs sound there none =
+missed-each t p q xs sound there none =
     let x = searched t p xs sound there in
     ap (λ v. child v (named q)) x.is ∙ child-named q (map (seen_member t) xs) ∙ absent (seen_member t) q xs none
 
 -- a member that has the name compares as equal with it
-pub named_equal : (t : Shown) (q : List ℕ) (m : Named) → is_named t q m ≡ true
+pub named-equal : (t : Shown) (q : List ℕ) (m : Named) → is_named t q m ≡ true
     → bytes_cmp (seen_member t m).0 q ≡ Equal
-named_equal t q m is =
+named-equal t q m is =
     subst (λ name. bytes_cmp name q ≡ Equal) (is_same q (name_in t m) is) (step_same (named q))
 
 pub hit : (t : Shown) (p : Span) (q : List ℕ) (xs : List Named) (i : ℕ)

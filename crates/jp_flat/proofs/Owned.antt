@@ -46,8 +46,8 @@ alone w first count x is = go (leb (first + count) 0) refl
         cond-true _ _ _ (le-leb 0 first (omega arith))
         ∙ ap (λ n. piece w n count) (omega arith) ∙ is
 
-pub owned_keeps : (t s : Shown) → IsOwned t s → Keeps t s
-owned_keeps t s o = record {
+pub owned-keeps : (t s : Shown) → IsOwned t s → Keeps t s
+owned-keeps t s o = record {
   texts = λ p x is. subst (λ w. text_at (record s { source = w }) p ≡ Some x) (sym o.source)
       (subst (λ w. text_at (record s { source = []; spare = w }) p ≡ Some x) (sym o.spare)
       (alone (t.source ++ t.spare) p.first p.count x (in_both t p x is)));
@@ -66,7 +66,7 @@ pub record IsSame (t s : Shown) (i : Item) : Type 0 where
 pub owned_same : (t s : Shown) (i : Item) → IsOwned t s → is_flat t i ≡ true → IsSame t s i
 owned_same t s i o sound =
     let has = there (flat_value most_levels t i) null (and-left _ _ sound) in
-    let kept = value_kept most_levels t s (owned_keeps t s o) i (meaning t i) has in
+    let kept = value_kept most_levels t s (owned-keeps t s o) i (meaning t i) has in
     record {
       sound = ap (λ w. is_some w && everywhere is_allowed (unwrap_or w null)) kept
           ∙ and-right _ _ sound;

@@ -169,7 +169,8 @@ fn place_of(tables: &Tables<'_>, span: Span, name: &str) -> Option<usize>
     }
 }
 
-/// The same by halves. It stands apart, so that objects of few members, as most are, take no call.
+/// Where the member of this name stands among many, by halves. It stands apart, so that objects of few
+/// members, as most are, take no call.
 #[inline(never)]
 fn place_among_many(tables: &Tables<'_>, span: Span, name: &str) -> Option<usize>
     requires { is_flat (shown tables.now) (Members span) ≡ true }

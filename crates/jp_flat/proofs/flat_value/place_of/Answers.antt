@@ -1,7 +1,7 @@
 use Rattle.std.proofs.Common.{◌≡◌, Some, get_or, option_map, sym, ap, rules, arith}
 use Rattle.jp_document.specs.Location.{named}
 use Rattle.jp_flat.specs.Flat.{piece, shown}
-use Rattle.jp_flat.proofs.Lookups.{hit, members-there, missed_each, named_equal}
+use Rattle.jp_flat.proofs.Lookups.{hit, members-there, missed-each, named-equal}
 use Rattle.jp_flat.proofs.flat_value.place_of.Goals as goal
 
 pub returns-in_err-members : goal.returns-in_err-members
@@ -18,7 +18,7 @@ returns-in-Some c =
     let xs = c.in_ok-members.members.now in
     let there : piece t.members p.first p.count ≡ Some xs = search rules in
     hit t p q xs c.in-Some.place c.requires there c.in-Some.ensures.found
-    (λ m. named_equal t q (get_or xs c.in-Some.place m) (c.in-Some.ensures.named m))
+    (λ m. named-equal t q (get_or xs c.in-Some.place m) (c.in-Some.ensures.named m))
 
 pub returns-in-None : goal.returns-in-None
 returns-in-None c =
@@ -28,4 +28,4 @@ returns-in-None c =
     let xs = c.in_ok-members.members.now in
     let there : piece t.members p.first p.count ≡ Some xs = search rules in
     sym
-    (ap (option_map (λ w. (named q, w))) (missed_each t p q xs c.requires there c.in-None.ensures.named))
+    (ap (option_map (λ w. (named q, w))) (missed-each t p q xs c.requires there c.in-None.ensures.named))

@@ -9,7 +9,7 @@ use Rattle.jp_flat.specs.Private.Tokens.{ReadsName, said, token_of}
 use Rattle.jp_flat.specs.declared.item.Named.{Named}
 use Rattle.jp_flat.proofs.Leaves.{flat-list, flat-object, leaf-read}
 use Rattle.jp_flat.proofs.Loops.{items_begin, items_end, items_more, leaves_end, leaves_grow}
-use Rattle.jp_flat.proofs.Alone.{members_lone, none_behind}
+use Rattle.jp_flat.proofs.Alone.{members_lone, none-behind}
 use Rattle.jp_flat.proofs.Loops.{above_said, members_begin, members_end, members_more}
 use Rattle.jp_flat.proofs.reading.+reading.Goals as goal
 
@@ -155,7 +155,7 @@ members-returns-then-ends_alone-clause-members t c =
     let so = l.invariant.so in
     let alone : c.len-base.result ≡ length l.pending.members.items = grind arith in
     c.in_ok-item.ensures.members
-    ∙ none_behind c.len-base.result c.args.pending.now.members.items so.new l.pending.members.items
+    ∙ none-behind c.len-base.result c.args.pending.now.members.items so.new l.pending.members.items
     so.pushed so.at alone
 
 pub members-members-preserved : goal.members-members-preserved
