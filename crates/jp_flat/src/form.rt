@@ -34,6 +34,7 @@ impl<'v, 't> Selectable for FlatValue<'v, 't> {
         FlatValue::list_length(self)
     }
 
+    #[inline(always)]
     fn member<'d>(self, name: &str) -> Option<(Step<'d>, FlatValue<'v, 't>)>
     where
         Self: 'd,

@@ -35,7 +35,6 @@ impl<'a, V: Lent + 'a> Comparable<'a, V> {
     }
 
     /// What its value is, without what is in it; None of Nothing.
-    #[inline(always)]
     pub fn seen(&self) -> Option<Seen<'a>>
         ensures { option_map seen_value result
             ≡ option_map bare (comparable_of V.meaning self.now) }
@@ -68,7 +67,6 @@ impl<'a, V: Lent + 'a> Comparable<'a, V> {
     /// the same (RFC 9535 section 2.3.5.2.2). Each pair of values that is compared is a step, and so
     /// is each byte of the shorter of two texts, names among them.
     #[cycle(equals)]
-    #[inline(always)]
     pub fn equals(&self, other: &Comparable<'a, V>, steps: &mut Steps) -> Result<bool, Stopped>
         ensures value { IfOk result (λ answer. answer ≡ equals (comparable_of V.meaning self.now)
             (comparable_of V.meaning other.now)) }
@@ -108,7 +106,6 @@ impl<'a, V: Lent + 'a> Comparable<'a, V> {
 
 /// The steps of comparing two sides, but for what is in them: one, and one for each byte of the
 /// shorter of two texts.
-#[inline(always)]
 fn steps_to_compare(left: Option<Seen>, right: Option<Seen>) -> u64 {
     match (left, right) {
         (Some(Seen::Text(left)), Some(Seen::Text(right))) => shorter(left, right).saturating_add(1),
@@ -122,7 +119,6 @@ fn shorter(left: &str, right: &str) -> u64 {
 }
 
 /// Whether two sides are the same but for what is in them.
-#[inline(always)]
 fn looks_same(left: Option<Seen>, right: Option<Seen>) -> bool
     ensures { result ≡ equals (option_map seen_value left.entry) (option_map seen_value right.entry) }
 {
