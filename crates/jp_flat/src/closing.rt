@@ -10,7 +10,7 @@ ghost use Rattle.jp_flat.specs.Private.Sorting.{IsSameByName};
 ghost use Rattle.jp_flat.specs.declared.item.Named.{Named};
 
 use crate::item::{Item, Named};
-use crate::moving::move_parts;
+use crate::moving::{move_parts, put};
 use crate::sinking::sort_few;
 use crate::sorting::{put_each, sort_many};
 use crate::spans::span_of;
@@ -128,7 +128,7 @@ pub(crate) fn object_of_one(tables: &mut Tables<'_>, member: Named) -> Option<It
     ensures grows { OnSome result (Grows (shown tables.old) (shown tables.new)) }
 {
     let span = span_of(tables.members.len(), 1)?;
-    tables.members.push(member).ok()?;
+    put(&mut tables.members, member)?;
     Some(Item::Members(span))
 }
 

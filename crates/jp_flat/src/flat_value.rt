@@ -37,6 +37,7 @@ impl<'d, 't> FlatValue<'d, 't> {
     }
 
     /// What it is, without what is in it.
+    #[inline(always)]
     pub fn seen(self) -> Seen<'d>
         ensures { seen_value result ≡ bare (lent_flat self.entry) }
     {

@@ -10,6 +10,7 @@ use jp_lent::{Lent, Seen, Selectable};
 impl<'v, 't> Lent for FlatValue<'v, 't> {
     ghost meaning = { lent_flat };
 
+    #[inline(always)]
     fn seen<'d>(self) -> Seen<'d>
     where
         Self: 'd,

@@ -9,6 +9,7 @@ ghost use Rattle.jp_flat.specs.Private.Tokens.{TokenHolds, token_of};
 
 use crate::cursor::Cursor;
 use crate::item::Item;
+use crate::moving::put;
 use crate::number::number;
 use crate::spans::text_span;
 use crate::tables::Tables;
@@ -30,7 +31,7 @@ pub(crate) fn leaves<'a>(tables: &mut Tables<'_>, reader: &mut Cursor<'a>) -> Op
             Token::EndArray | Token::BeginArray | Token::BeginObject => return Some(token),
             _ => {
                 let item = leaf(tables, token)?;
-                tables.items.push(item).ok()?;
+                put(&mut tables.items, item)?;
             }
         }
     }

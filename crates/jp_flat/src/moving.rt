@@ -1,6 +1,6 @@
 //! Parts that move from one table to another.
 
-ghost use Rattle.std.specs.Prelude.{◌≡◌, ◌≤◌, ◌<◌, ◌+◌, ◌++◌, OnSome, drop, length, take};
+ghost use Rattle.std.specs.Prelude.{◌≡◌, ◌∷◌, ◌≤◌, ◌<◌, ◌+◌, ◌++◌, OnSome, drop, length, take, []};
 
 use std::mem::swap;
 
@@ -35,8 +35,20 @@ fn move_part<T: Copy>(table: &mut Vec<T>, parts: &mut Vec<T>, first: usize) -> O
 {
     if first < parts.len() {
         let part = parts[first];
-        table.push(part).ok()?;
+        put(table, part)?;
         parts.truncate(first);
     }
     Some(())
+}
+
+/// Puts a part behind those of a table. Where there is room for it, no call is made.
+#[inline(always)]
+pub(crate) fn put<T: Copy>(table: &mut Vec<T>, part: T) -> Option<()>
+    ensures puts { OnSome result (table.new.items ≡ table.old.items ++ part ∷ []) }
+{
+    if table.len() < table.capacity() {
+        table.push_reserved(part);
+        return Some(());
+    }
+    table.push(part).ok()
 }

@@ -11,6 +11,7 @@ ghost use Rattle.jp_flat.specs.Private.Tokens.{IsSpelledIn, TokenHolds, token_of
 use crate::closing::{close_list, close_object};
 use crate::cursor::Cursor;
 use crate::item::{Item, Named};
+use crate::moving::put;
 use crate::parts::{bytes_at, is_same};
 use crate::passing::pass_value;
 use crate::reading::{Pending, value, value_behind};
@@ -63,7 +64,7 @@ fn picked_items(
     let base = pending.items.len();
     'items: while !reader.take_end_array() {
         let item = picked_item(tables, pending, reader, depth, names)?;
-        pending.items.push(item).ok()?;
+        put(&mut pending.items, item)?;
     }
     let list = close_list(tables, &mut pending.items, base)?;
     Some(list)
@@ -128,7 +129,7 @@ fn picked_members(
         rises = still_rises(rises, tables, &pending.members, base, name);
         let span = text_span(tables, name)?;
         let item = value(tables, pending, reader, depth)?;
-        pending.members.push(Named { name: span, item }).ok()?;
+        put(&mut pending.members, Named { name: span, item })?;
     }
     let object = close_object(
         tables,

@@ -13,7 +13,7 @@ use crate::closing::{close_list, close_object, list_from, object_of_one};
 use crate::cursor::Cursor;
 use crate::item::{Item, Named};
 use crate::leaf::{leaf, leaves};
-use crate::moving::move_parts;
+use crate::moving::{move_parts, put};
 use crate::rising::still_rises;
 use crate::spans::text_span;
 use crate::tables::Tables;
@@ -228,10 +228,10 @@ fn items(
     let base = pending.items.len();
     move_parts(&mut pending.items, &mut tables.items, first)?;
     let item = container(tables, pending, reader, depth, token)?;
-    pending.items.push(item).ok()?;
+    put(&mut pending.items, item)?;
     'items: while !reader.take_end_array() {
         let item = value(tables, pending, reader, depth)?;
-        pending.items.push(item).ok()?;
+        put(&mut pending.items, item)?;
     }
     let list = close_list(tables, &mut pending.items, base)?;
     Some(list)
@@ -266,7 +266,7 @@ fn members(
             let object = object_of_one(tables, member)?;
             return Some(object);
         }
-        pending.members.push(member).ok()?;
+        put(&mut pending.members, member)?;
     }
     let object = close_object(
         tables,

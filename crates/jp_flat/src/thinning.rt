@@ -12,7 +12,7 @@ use crate::closing::{close_list, close_object, list_from};
 use crate::cursor::Cursor;
 use crate::item::{Item, Named};
 use crate::leaf::{leaf, leaves};
-use crate::moving::move_parts;
+use crate::moving::{move_parts, put};
 use crate::parts::is_same;
 use crate::reading::{Pending, lone_container};
 use crate::rising::still_rises;
@@ -115,10 +115,10 @@ fn thin_items(
     let base = pending.items.len();
     move_parts(&mut pending.items, &mut tables.items, first)?;
     let item = thin_container(tables, pending, reader, depth, token, wanted)?;
-    pending.items.push(item).ok()?;
+    put(&mut pending.items, item)?;
     'items: while !reader.take_end_array() {
         let item = thin_value(tables, pending, reader, depth, wanted)?;
-        pending.items.push(item).ok()?;
+        put(&mut pending.items, item)?;
     }
     let list = close_list(tables, &mut pending.items, base)?;
     Some(list)
@@ -236,6 +236,6 @@ fn put_member(
     }
     let still = still_rises(rises, tables, members, base, name);
     let span = text_span(tables, name)?;
-    members.push(Named { name: span, item }).ok()?;
+    put(members, Named { name: span, item })?;
     Some(still)
 }

@@ -31,7 +31,7 @@ mod steps;
 
 pub use candidates::{candidate, single};
 pub use comparable::Comparable;
-pub use comparison::{compare, equal, less};
+pub use comparison::{compare, compare_lent, equal, less};
 pub use descent::{Descent, descend, descend_each};
 pub use selector::select_plain;
 pub use steps::{Steps, Stopped};

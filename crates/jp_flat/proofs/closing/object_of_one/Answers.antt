@@ -6,7 +6,7 @@ use Rattle.jp_flat.proofs.closing.object_of_one.Goals as goal
 pub returns-clause-object : goal.returns-clause-object
 returns-clause-object c = λ n ms all.
     let t = shown c.args.tables.now in
-    let s = shown (record c.args.tables.now { members = c.push.new.self }) in
+    let s = shown (record c.args.tables.now { members = c.put.new.table }) in
     let p = c.in_ok-span.span in
     let more : Grows t s = search rules in
     let moved : s.members ≡ t.members ++ c.args.member ∷ [] = search rules in

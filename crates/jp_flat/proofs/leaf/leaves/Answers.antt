@@ -19,7 +19,7 @@ leaves-preserved c =
     let i = c.in_ok-item-in_default.item in
     let done = c.in_ok-item-in_default.ensures in
     let u = shown c.leaf.new.tables in
-    let w = shown (record c.leaf.new.tables { items = c.push.new.self }) in
+    let w = shown (record c.leaf.new.tables { items = c.put.new.table }) in
     let first : l.reader.tokens ≡ k ∷ c.next.new.self.tokens = c.in_ok-token.ensures.reads done.good in
     let pushed : w ≡ with_items u (u.items ++ i ∷ []) = search rules in
     record {

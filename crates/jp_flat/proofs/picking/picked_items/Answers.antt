@@ -25,7 +25,7 @@ items-preserved c =
     let r = c.picked_item.new.reader.tokens in
     let u = shown c.picked_item.new.tables in
     let less : length r < length l.reader.tokens = rw (← same) done.shorter in
-    let pushed : c.push.new.self.items ≡ l.pending.items.items ++ i ∷ [] = search rules in
+    let pushed : c.put.new.table.items ≡ l.pending.items.items ++ i ∷ [] = search rules in
     let read : KeepsFlat (λ v w. w ≡ with_members p v) c.args.depth l.reader.tokens r u i =
     rw (← same) done.keeps in
     record {

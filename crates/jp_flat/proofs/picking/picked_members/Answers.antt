@@ -42,7 +42,7 @@ members-preserved c =
     let less = read_key-shorter l.reader.tokens (Some k) a named in
     let shorter : length r < length l.reader.tokens =
     omega (arith, less, done.shorter) in
-    let pushed : c.push.new.self.items ≡ l.pending.members.items ++ m ∷ [] = search rules in
+    let pushed : c.put.new.table.items ≡ l.pending.members.items ++ m ∷ [] = search rules in
     record {
       so = rw pushed
           (members_more (is_listed names) c.args.depth c.args.reader.now.tokens l.reader.tokens a r

@@ -76,7 +76,7 @@ items-items-init t c =
     let left : c.move_parts.new.parts.items ≡ take first s.items.items = search rules in
     let more : Grows (with_items (shown s) (take first s.items.items)) (shown c.container.new.tables) =
     subst (λ xs. Grows (with_items (shown s) xs) (shown c.container.new.tables)) left done.grows in
-    let pushed : c.push.new.self.items ≡ moved ++ i ∷ [] = search rules in
+    let pushed : c.put.new.table.items ≡ moved ++ i ∷ [] = search rules in
     record {
       so = rw pushed
           (items_begin c.args.depth c.args.reader.now.tokens (k ∷ q) r (shown c.args.tables.now) (shown s)
@@ -95,7 +95,7 @@ items-items-preserved t c =
     let r = c.value.new.reader.tokens in
     let s = shown c.value.new.tables in
     let less : length r < length l.reader.tokens = rw (← same) done.shorter in
-    let pushed : c.push-in-items.new.self.items ≡ l.pending.items.items ++ i ∷ [] = search rules in
+    let pushed : c.put-in-items.new.table.items ≡ l.pending.items.items ++ i ∷ [] = search rules in
     let read : ReadsFlat c.args.depth l.reader.tokens r s i = rw (← same) done.reads in
     record {
       so = rw pushed
@@ -173,7 +173,7 @@ members-members-preserved t c =
     let lesser = done.shorter in
     let shorter : length r < length l.reader.tokens = omega arith in
     let same : c.ends_alone.new.reader.tokens ≡ r = grind arith in
-    let pushed : c.push.new.self.items ≡ l.pending.members.items ++ p ∷ [] = search rules in
+    let pushed : c.put.new.table.items ≡ l.pending.members.items ++ p ∷ [] = search rules in
     record {
       so = rw pushed
           (rw same

@@ -81,7 +81,7 @@ thin_items-items-init t c =
     let left : c.move_parts.new.parts.items ≡ take first s.items.items = search rules in
     let more : Grows (with_items (shown s) (take first s.items.items)) (shown c.thin_container.new.tables) =
     subst (λ xs. Grows (with_items (shown s) xs) (shown c.thin_container.new.tables)) left done.grows in
-    let pushed : c.push.new.self.items ≡ moved ++ i ∷ [] = search rules in
+    let pushed : c.put.new.table.items ≡ moved ++ i ∷ [] = search rules in
     record {
       so = rw pushed
           (kept_items-begin c.args.wanted.now c.args.depth c.args.reader.now.tokens (k ∷ q) r
@@ -102,7 +102,7 @@ thin_items-items-preserved t c =
     let r = c.thin_value.new.reader.tokens in
     let s = shown c.thin_value.new.tables in
     let less : length r < length l.reader.tokens = rw (← same) done.shorter in
-    let pushed : c.push-in-items.new.self.items ≡ l.pending.items.items ++ i ∷ [] = search rules in
+    let pushed : c.put-in-items.new.table.items ≡ l.pending.items.items ++ i ∷ [] = search rules in
     let read : KeepsFlat (IsThinned n) c.args.depth l.reader.tokens r s i = rw (← same) done.keeps in
     record {
       so = rw pushed
