@@ -3,3 +3,4 @@ pub mod Arguments
 pub mod Counted
 pub mod Lengths
 pub mod Sizes
+pub mod Texts

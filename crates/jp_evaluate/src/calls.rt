@@ -10,7 +10,8 @@ ghost use Rattle.jp_evaluate.specs.Nodelist.{argument_value, call_answer, call_h
 ghost use Rattle.jp_evaluate.specs.Private.Asked.{asked};
 ghost use Rattle.jp_evaluate.specs.Private.Calls.{argument_query, both_arguments, call_function};
 ghost use Rattle.jp_evaluate.specs.Private.Calls.{call_query, counted, only_argument};
-ghost use Rattle.jp_evaluate.specs.Private.Meanings.{made_of_nodes};
+ghost use Rattle.jp_document.specs.Value.{text};
+ghost use Rattle.jp_evaluate.specs.Private.Meanings.{made_of_nodes, only_text};
 ghost use Rattle.jp_evaluate.specs.Private.Selecting.{nodes_query};
 ghost use Rattle.jp_evaluate.specs.Private.Sizes.{argument_size, call_size, query_size};
 
@@ -18,7 +19,7 @@ use crate::evaluating::{Work, logical_answer};
 use crate::evaluation_fault::EvaluationFault;
 use crate::filter::Asking;
 use crate::kind::{Kind, kind_of, value_of_value};
-use crate::operand::{literal_value, whole};
+use crate::operand::{lent_text, literal_text, literal_value, seen_text, whole};
 use crate::selecting::{NodesQuery, Selecting};
 use crate::tally::{may_meet, tally};
 use jp_check::Function;
@@ -95,9 +96,37 @@ impl<'a, 'q, V: Selectable + 'q, M: Matching> Asking<'a, 'q, V, M> {
         let Some((first, second)) = both_arguments(call) else {
             return Ok(false);
         };
-        let value = self.argument_value(work, first)?;
-        let pattern = self.argument_value(work, second)?;
-        logical_answer(self.evaluation, work, function_of(call), value, pattern)
+        let text = self.argument_text(work, first)?;
+        let pattern = self.argument_text(work, second)?;
+        logical_answer(self.evaluation, work, function_of(call), text, pattern)
+    }
+
+    /// The text that an argument stands for, None where it stands for another value or for none. It does
+    /// not go to memory, as a value of any kind would.
+    #[cycle(filter)]
+    #[inline(always)]
+    fn argument_text(
+        &self,
+        work: &mut Work,
+        argument: &'q Argument,
+    ) -> Result<Option<&'q str>, EvaluationFault>
+        ensures gives { IfOk result (λ found. option_map (λ s. text s.now) found
+            ≡ only_text (asked V.meaning self.now (argument_value (argument_of argument.now)))) }
+        ensures takes { Takes work.old.steps work.new.steps }
+        ensures stopped { StopsSpent result work.new.steps }
+    {
+        match argument {
+            Argument::Literal(literal) => Ok(literal_text(literal)),
+            Argument::Query(query) => {
+                work.steps.take_many(query.segments.len() as u64)?;
+                Ok(lent_text(self.node_value(query)))
+            }
+            Argument::Call(call) => {
+                let value = self.call_value(work, call)?;
+                Ok(seen_text(value.seen()))
+            }
+            Argument::Logical(_) => Ok(None),
+        }
     }
 
     /// The value that an argument stands for, Nothing where it stands for none.

@@ -7,16 +7,14 @@ ghost use Rattle.std.specs.Str.{chars};
 ghost use Rattle.jp_iregexp.specs.PatternOf.{pattern_of};
 ghost use Rattle.jp_iregexp.specs.Tree.{tree};
 ghost use Rattle.jp_document.specs.Value.{text as text_value};
-ghost use Rattle.jp_select.specs.Comparable.{comparable_of};
 ghost use Rattle.jp_evaluate.specs.Functions.{logical_answer, meaning};
 ghost use Rattle.jp_evaluate.specs.Private.Meanings.{matched};
 
 use crate::evaluation_fault::EvaluationFault;
 use crate::pattern::Patterns;
 use jp_check::Function;
-use jp_lent::{Lent, Seen};
 use jp_match::{CountedPattern, Matching, Tests};
-use jp_select::{Comparable, Steps};
+use jp_select::Steps;
 use std::alloc::{AllocError, Global};
 
 /// How many class tests a step is for.
@@ -45,17 +43,17 @@ enum Extent {
     Part,
 }
 
-/// Whether a function is true of the values of two arguments; one of another kind is not.
+/// Whether a function is true of two arguments that are these texts, where None is no text.
 #[inline(always)]
-pub(crate) fn logical_answer<'q, V: Lent + 'q, M: Matching>(
+pub(crate) fn logical_answer<'q, V, M: Matching>(
     evaluation: &Evaluation<'q, V, M>,
     work: &mut Work,
     function: Option<Function>,
-    left: Comparable<'q, V>,
-    right: Comparable<'q, V>,
+    left: Option<&'q str>,
+    right: Option<&'q str>,
 ) -> Result<bool, EvaluationFault>
     ensures gives { IfOk result (λ answer. answer ≡ logical_answer (option_map meaning function)
-        (comparable_of V.meaning left.entry) (comparable_of V.meaning right.entry)) }
+        (option_map (λ s. text_value s.now) left.entry) (option_map (λ s. text_value s.now) right.entry)) }
     ensures takes { Takes work.old.steps work.new.steps }
     ensures stopped { StopsSpent result work.new.steps }
 {
@@ -67,22 +65,21 @@ pub(crate) fn logical_answer<'q, V: Lent + 'q, M: Matching>(
 }
 
 /// Whether a text matches a pattern; not so where one of both is no text.
-fn matched<'q, V: Lent + 'q, M: Matching>(
+fn matched<'q, V, M: Matching>(
     evaluation: &Evaluation<'q, V, M>,
     work: &mut Work,
     extent: Extent,
-    value: Comparable<'q, V>,
-    pattern: Comparable<'q, V>,
+    text: Option<&'q str>,
+    pattern: Option<&'q str>,
 ) -> Result<bool, EvaluationFault>
     ensures gives { IfOk result (λ answer. answer ≡ matched extent
-        (comparable_of V.meaning value.entry) (comparable_of V.meaning pattern.entry)) }
+        (option_map (λ s. text_value s.now) text.entry)
+        (option_map (λ s. text_value s.now) pattern.entry)) }
     ensures takes { Takes work.old.steps work.new.steps }
     ensures stopped { StopsSpent result work.new.steps }
 {
-    match (value.seen(), pattern.seen()) {
-        (Some(Seen::Text(text)), Some(Seen::Text(pattern))) => text_answer(
-            evaluation, work, extent, text, pattern,
-        ),
+    match (text, pattern) {
+        (Some(text), Some(pattern)) => text_answer(evaluation, work, extent, text, pattern),
         _ => Ok(false),
     }
 }

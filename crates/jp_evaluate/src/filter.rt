@@ -4,9 +4,10 @@ ghost use Rattle.jp_evaluate.specs.Stopping.{StopsSpent};
 ghost use Rattle.jp_select.specs.Steps.{Takes};
 ghost use Rattle.std.specs.Prelude.{◌≡◌, ◌⊎◌, IfOk, None, map, true};
 ghost use Rattle.jp_tree.specs.declared.tree.Op.TheVariants.{Greater, Less};
-ghost use Rattle.jp_tree.specs.Tree.{exprs};
+ghost use Rattle.jp_tree.specs.Tree.{exprs, node_value};
 ghost use Rattle.jp_tree.specs.Views.{expr_of, operand_of, query_of};
 ghost use Rattle.jp_select.specs.Comparable.{comparable_of};
+ghost use Rattle.jp_select.specs.Comparison.{compared};
 ghost use Rattle.jp_evaluate.specs.Nodelist.{all_hold, any_holds, has_node, holds, nodelist_at};
 ghost use Rattle.jp_evaluate.specs.Nodelist.{operand_value};
 ghost use Rattle.jp_evaluate.specs.Private.Asked.{asked};
@@ -19,7 +20,7 @@ use crate::tally::{may_meet, tally};
 use crate::walk::Walk;
 use jp_lent::{Lent, Selectable};
 use jp_match::Matching;
-use jp_select::{Comparable, compare};
+use jp_select::{Comparable, compare, compare_lent};
 use jp_tree::{Expr, Op, Operand, Query, Subject};
 
 /// What stays the same while an expression is evaluated: what the evaluation goes by, and the value
@@ -42,14 +43,19 @@ impl<'a, 'q, V: Selectable + 'q, M: Matching> Asking<'a, 'q, V, M> {
             Expr::AnyOf(parts) => self.any_holds(work, parts),
             Expr::AllOf(parts) => self.all_hold(work, parts),
             Expr::Not(part) => Ok(!self.holds(work, part)?),
-            Expr::Compare { left, op, right } => {
-                let left = self.operand_value(work, left)?;
-                if is_never(*op, &left) {
-                    return Ok(false);
+            Expr::Compare { left, op, right } => match (left, right) {
+                (Operand::Query(left), Operand::Query(right)) => {
+                    self.nodes_compare(work, left, *op, right)
                 }
-                let right = self.operand_value(work, right)?;
-                Ok(compare(*op, left, right, &mut work.steps)?)
-            }
+                _ => {
+                    let left = self.operand_value(work, left)?;
+                    if is_never(*op, &left) {
+                        return Ok(false);
+                    }
+                    let right = self.operand_value(work, right)?;
+                    Ok(compare(*op, left, right, &mut work.steps)?)
+                }
+            },
             Expr::Test(Subject::Query(query)) => self.selects_some(work, query),
             Expr::Test(Subject::Call(call)) => match call_query(call) {
                 Some(nodes) => self.selects_some(work, nodes.query),
@@ -110,6 +116,32 @@ impl<'a, 'q, V: Selectable + 'q, M: Matching> Asking<'a, 'q, V, M> {
         let mut walk = Walk::from(self.evaluation.alloc, self.start(query));
         let first = walk.advance(self.evaluation, work, &query.segments)?;
         Ok(first.is_some())
+    }
+
+    /// Whether a comparison is true of what two singular queries select. What they select does not go to
+    /// memory for it.
+    #[inline(always)]
+    fn nodes_compare(
+        &self,
+        work: &mut Work,
+        left: &'q Query,
+        op: Op,
+        right: &'q Query,
+    ) -> Result<bool, EvaluationFault>
+        ensures gives { IfOk result (λ answer. answer ≡ compared op
+            (asked V.meaning self.now (operand_value (node_value (query_of left.now))))
+            (asked V.meaning self.now (operand_value (node_value (query_of right.now))))) }
+        ensures takes { Takes work.old.steps work.new.steps }
+        ensures stopped { StopsSpent result work.new.steps }
+    {
+        work.steps.take_many(left.segments.len() as u64)?;
+        let left = self.node_value(left);
+        if is_never(op, &Comparable::of(left)) {
+            return Ok(false);
+        }
+        work.steps.take_many(right.segments.len() as u64)?;
+        let right = self.node_value(right);
+        Ok(compare_lent(op, left, right, &mut work.steps)?)
     }
 
     /// The value of a side of a comparison (RFC 9535 section 2.3.5.2.2): of a literal, of the node

@@ -1,12 +1,14 @@
-//! The values of literals (RFC 9535 section 2.3.5.1).
+//! The values of literals (RFC 9535 section 2.3.5.1), and the texts that values are.
 
-ghost use Rattle.std.specs.Prelude.{◌≡◌, Some, pos};
-ghost use Rattle.jp_document.specs.Value.{whole};
+ghost use Rattle.std.specs.Prelude.{◌≡◌, Some, option_map, pos};
+ghost use Rattle.jp_document.specs.Value.{text, whole};
+ghost use Rattle.jp_lent.specs.Lending.{seen_value};
 ghost use Rattle.jp_tree.specs.Views.{literal_of};
 ghost use Rattle.jp_select.specs.Comparable.{comparable_of};
 ghost use Rattle.jp_evaluate.specs.Nodelist.{literal_value};
+ghost use Rattle.jp_evaluate.specs.Private.Meanings.{only_text};
 
-use jp_lent::Lent;
+use jp_lent::{Lent, Seen};
 use jp_select::Comparable;
 use jp_tree::{Literal, Numeral};
 
@@ -30,4 +32,34 @@ pub(crate) fn whole<'a, V: Lent>(count: u64) -> Comparable<'a, V>
     ensures { comparable_of V.meaning result ≡ Some (whole (pos count)) }
 {
     Comparable::Whole(count as i128)
+}
+
+/// The text that a literal is, None of others.
+#[inline(always)]
+pub(crate) fn literal_text(literal: &Literal) -> Option<&str>
+    ensures { option_map (λ s. text s.now) result ≡ only_text (literal_value (literal_of literal.now)) }
+{
+    match literal {
+        Literal::Text(text) => Some(text.as_str()),
+        Literal::Number(_) | Literal::True | Literal::False | Literal::Null => None,
+    }
+}
+
+/// The text that a value is that is lent, None of others and of Nothing.
+#[inline(always)]
+pub(crate) fn lent_text<'a, V: Lent + 'a>(value: Option<V>) -> Option<&'a str>
+    ensures { option_map (λ s. text s.now) result ≡ only_text (option_map V.meaning value) }
+{
+    seen_text(Some(value?.seen()))
+}
+
+/// The text that a value is, as it is seen; None of others and of Nothing.
+#[inline(always)]
+pub(crate) fn seen_text(value: Option<Seen<'_>>) -> Option<&str>
+    ensures { option_map (λ s. text s.now) result ≡ only_text (option_map seen_value value.entry) }
+{
+    match value? {
+        Seen::Text(text) => Some(text),
+        Seen::Null | Seen::Bool(_) | Seen::Whole(_) | Seen::List | Seen::Members => None,
+    }
 }

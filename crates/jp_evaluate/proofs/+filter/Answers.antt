@@ -1,4 +1,4 @@
-use Rattle.std.proofs.Common.{◌≡◌, ◌∷◌, [], IfOk, false, ap, arith, length, refl, rules, subst, sym, ◌∙◌}
+use Rattle.std.proofs.Common.{◌≡◌, ◌∷◌, [], IfOk, false, ap, ap₂, arith, length, option_map, refl, rules, subst, sym, ◌∙◌}
 use Rattle.std.specs.List.{flat_map}
 use Rattle.jp_document.specs.Location.{entries}
 use Rattle.jp_document.specs.Node.{root_of}
@@ -6,9 +6,10 @@ use Rattle.jp_tree.specs.declared.tree.Expr.{the_lemmas}
 use Rattle.jp_tree.specs.Tree.{call_test}
 use Rattle.jp_tree.specs.Views.{argument_of, call_of, expr_of, query_of}
 use Rattle.jp_select.specs.Comparable.{comparable_of}
-use Rattle.jp_evaluate.specs.Functions.{only_value}
+use Rattle.jp_document.specs.Value as value
+use Rattle.jp_evaluate.specs.Functions.{logical_answer, meaning, only_value}
 use Rattle.jp_evaluate.specs.Nodelist.{holds, nodelist_at}
-use Rattle.jp_evaluate.specs.Private.Calls.{counted}
+use Rattle.jp_evaluate.specs.Private.Calls.{call_function, counted}
 use Rattle.jp_evaluate.specs.Private.Selecting.{nodes_query}
 use Rattle.jp_evaluate.specs.Private.Walk.{choice_reaches, pending, reached_node, reaches, segments_left}
 use Rattle.jp_evaluate.proofs.Parts.Counted.{no_nodes-value, test-logical, test-nodes}
@@ -28,6 +29,7 @@ use Rattle.jp_evaluate.proofs.Walks.Tallying.{rounds-fewer, rounds-first, rounds
 use Rattle.jp_evaluate.proofs.Walks.Tallying.{tallies-begun, tallies-less, tallies-more}
 use Rattle.jp_evaluate.proofs.Walks.Tallying.{tells-all, tells-first, tells-more}
 use Rattle.jp_evaluate.proofs.Parts.Sizes.{part_less}
+use Rattle.jp_evaluate.proofs.Parts.Texts.{called-texts}
 use Rattle.jp_select.proofs.Stepping.{takes_none, takes_then}
 use Rattle.jp_evaluate.proofs.+filter.Goals as goal
 
@@ -68,6 +70,20 @@ filter::Asking::call_value-returns-in-None-clause-gives g t c =
     no_nodes-value (call_of c.args.call.now) (argument_of c.in-Some.argument.now)
     c.in-Some-function_of.function d n c.in-Some.ensures c.in-Some-function_of.ensures
     (sym c.in-ValueOfNodes.ensures) c.in-None.ensures.gives
+
+pub filter::Asking::call_holds-returns-clause-gives : goal.filter::Asking::call_holds-returns-clause-gives
+filter::Asking::call_holds-returns-clause-gives g t c =
+    let d = g.V.Lent.meaning c.args.self.now.evaluation.now.root in
+    let n = root_of (g.V.Lent.meaning c.args.self.now.current) in
+    let f = call_of c.args.call.now in
+    let text = option_map (λ s. value.text s.now) c.in_ok-text.text in
+    let pattern = option_map (λ s. value.text s.now) c.in_ok-pattern.pattern in
+    subst (λ b. IfOk c.logical_answer.result (λ answer. answer ≡ b))
+    (ap (λ o. logical_answer (option_map meaning o) text pattern) c.function_of.ensures
+    ∙ ap₂ (logical_answer (option_map meaning (call_function f))) c.in_ok-text.ensures.gives
+    c.in_ok-pattern.ensures.gives
+    ∙ called-texts f (argument_of c.in-Some.first.now) (argument_of c.in-Some.second.now) d n c.in-Some.ensures)
+    c.logical_answer.ensures.gives
 
 pub filter::Asking::holds-returns-in-Some-clause-gives : goal.filter::Asking::holds-returns-in-Some-clause-gives
 filter::Asking::holds-returns-in-Some-clause-gives g t c =

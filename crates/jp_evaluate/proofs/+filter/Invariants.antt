@@ -60,6 +60,9 @@ decreases-filter::Asking::value_of_nodes g l = suc (query_size (query_of l.nodes
 abbrev pub decreases-filter::Asking::call_holds : goal.decreases-filter::Asking::call_holds
 decreases-filter::Asking::call_holds g l = call_size (call_of l.call.now)
 
+abbrev pub decreases-filter::Asking::argument_text : goal.decreases-filter::Asking::argument_text
+decreases-filter::Asking::argument_text g l = argument_size (argument_of l.argument.now)
+
 abbrev pub decreases-filter::Asking::argument_value : goal.decreases-filter::Asking::argument_value
 decreases-filter::Asking::argument_value g l = argument_size (argument_of l.argument.now)
 

@@ -1,7 +1,7 @@
 -- The meanings of functions, kind by kind.
-use Rattle.std.specs.Prelude.{Bool, List, Option, None}
+use Rattle.std.specs.Prelude.{Bool, List, Option, Some, None}
 use Rattle.jp_document.specs.Node.{Node}
-use Rattle.jp_document.specs.Value.{Value}
+use Rattle.jp_document.specs.Value.{Value, text}
 use Rattle.jp_evaluate.specs.Functions.{Meaning, is_found, is_matched, nodes_of_nodes}
 use Rattle.jp_evaluate.specs.Functions.{truth_of_values, value_of_nodes, value_of_value}
 use Rattle.jp_evaluate.specs.declared.evaluating.Extent.{Extent}
@@ -30,3 +30,8 @@ made_of_nodes _ ns = None
 abbrev pub matched : Extent → Option Value → Option Value → Bool
 matched extent.Whole v p = is_matched v p
 matched extent.Part v p = is_found v p
+
+-- a value where it is a text, Nothing in place of others
+abbrev pub only_text : Option Value → Option Value
+only_text (Some (text s)) = Some (text s)
+only_text _ = None
