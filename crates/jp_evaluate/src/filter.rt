@@ -148,7 +148,6 @@ impl<'a, 'q, V: Selectable + 'q, M: Matching> Asking<'a, 'q, V, M> {
     /// that a singular query selects, or what a function answers; Nothing where there is none. It
     /// copies nothing.
     #[cycle(filter)]
-    #[inline(always)]
     fn operand_value(
         &self,
         work: &mut Work,

@@ -46,9 +46,9 @@ fn move_part<T: Copy>(table: &mut Vec<T>, parts: &mut Vec<T>, first: usize) -> O
 pub(crate) fn put<T: Copy>(table: &mut Vec<T>, part: T) -> Option<()>
     ensures puts { OnSome result (table.new.items ≡ table.old.items ++ part ∷ []) }
 {
-    if table.len() < table.capacity() {
-        table.push_reserved(part);
-        return Some(());
+    if table.len() >= table.capacity() {
+        table.reserve(1).ok()?;
     }
-    table.push(part).ok()
+    table.push_reserved(part);
+    Some(())
 }

@@ -3,7 +3,6 @@ use Rattle.std.proofs.Common.{◌≡◌, Option, Some, None, option_map, refl, a
 use Rattle.std.proofs.lemmas.Option.{same_Some}
 use Rattle.jp_document.specs.Node.{Node}
 use Rattle.jp_document.specs.Value.{Value, text}
-use Rattle.jp_lent.specs.Lending.{bare}
 use Rattle.jp_tree.specs.Tree.{ArgumentTree, CallTree, argument_then, call, no_arguments}
 use Rattle.jp_tree.specs.declared.function.Function.{Function}
 use Rattle.jp_tree.specs.declared.function.Function.TheVariants.{Match, Search}
@@ -42,8 +41,3 @@ called-texts (call cs (argument_then v (argument_then w no_arguments))) x y d c 
     ∙ ap (λ p. logical_answer (option_map meaning f) (argument_value p.0 d c) (argument_value p.1 d c))
     (same_Some _ _ is)
 called-texts (call cs (argument_then v (argument_then w (argument_then u rest)))) x y d c is = absurd (cc)
-
--- a text is seen whole
-pub text-bare : (v : Option Value) → only_text (option_map bare v) ≡ only_text v
-text-bare (Some (text s)) = refl
-text-bare v = refl
