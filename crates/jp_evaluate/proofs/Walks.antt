@@ -6,6 +6,7 @@ pub mod Choices
 pub mod Given
 pub mod Kept
 pub mod Leaves
+pub mod Listed
 pub mod Reaching
 pub mod Selects
 pub mod Skipping

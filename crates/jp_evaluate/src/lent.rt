@@ -1,7 +1,7 @@
 //! The nodes of a nodelist as they are lent, to be taken one by one.
 
 ghost use Rattle.std.specs.Prelude.{◌≡◌, ◌<◌, ◌+◌, ◌++◌, ◌∷◌, IfNone, IfOk, IfSome, OnOk, [], false, filter, length, true};
-ghost use Rattle.std.specs.Prelude.{if◌then◌else◌, MatchOption, OnSome, map, option_to_list, slice_get};
+ghost use Rattle.std.specs.Prelude.{if◌then◌else◌, MatchOption, OnSome, map, option_to_list, slice_get, Some};
 ghost use Rattle.std.specs.Iterator.{at_most};
 ghost use Rattle.jp_tree.specs.Views.{query_of};
 ghost use Rattle.jp_select.specs.Giving.{GivesNextAs};
@@ -59,6 +59,19 @@ impl<'q> Segments<'q> {
             Segments::Unsettled(query)
         } else {
             Segments::Lent(&query.segments)
+        }
+    }
+
+    /// Those that the walk follows, once nothing is to be answered before it.
+    #[inline(always)]
+    fn begun(&self) -> Option<&[Segment]>
+        ensures begun { OnSome result (is_begun self.now ≡ true) }
+        ensures followed { IfSome result (λ s. s.now ≡ followed self.now) }
+    {
+        match self {
+            Segments::Unsettled(_) => None,
+            Segments::Lent(segments) => Some(segments),
+            Segments::Settled(segments) => Some(segments),
         }
     }
 
@@ -209,6 +222,42 @@ impl<'d: 'q, 'q, V: Selectable + 'd, M: Matching> LentNodes<'d, 'q, V, M> {
         if self.failed {
             return None;
         }
+        match self.next_child() {
+            Some(next) => Some(next),
+            None => self.reached_value(),
+        }
+    }
+
+    /// The value of the next node, where it is the next child that a wildcard or a slice of the last segment
+    /// chooses; else None, and nothing changes.
+    #[inline(always)]
+    fn next_child(&mut self) -> Option<Result<V, EvaluationFault>>
+        requires { has_failed self.old ≡ false }
+        ensures gives { IfSome result (λ r. GivesNextValue V.meaning self.old (Some r) self.new) }
+        ensures none { IfNone result (self.new ≡ self.old) }
+        ensures counts { IfSome result (λ r. OnOk r (Counts 1 (steps_of self.old) (steps_of self.new))) }
+        ensures takes { Takes (steps_of self.old) (steps_of self.new) }
+        ensures stopped { IfSome result (λ r. StopsSpent r (steps_of self.new)) }
+    {
+        let segments = self.segments.begun()?;
+        let value = self.walk.next_child(segments)?;
+        match self.work.steps.take() {
+            Ok(()) => Some(Ok(value)),
+            Err(stopped) => {
+                self.failed = true;
+                Some(Err(EvaluationFault::from(stopped)))
+            }
+        }
+    }
+
+    /// The value that the walk reaches next, as `next_value` gives it.
+    fn reached_value(&mut self) -> Option<Result<V, EvaluationFault>>
+        requires { has_failed self.old ≡ false }
+        ensures gives { GivesNextValue V.meaning self.old result self.new }
+        ensures counts { IfSome result (λ r. OnOk r (Counts 1 (steps_of self.old) (steps_of self.new))) }
+        ensures takes { Takes (steps_of self.old) (steps_of self.new) }
+        ensures stopped { IfSome result (λ r. StopsSpent r (steps_of self.new)) }
+    {
         let reached = self.reach();
         self.failed = reached.is_err();
         match reached.transpose()? {

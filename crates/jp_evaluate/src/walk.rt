@@ -3,17 +3,17 @@
 
 ghost use Rattle.jp_evaluate.specs.Stopping.{GivenCounts, StopsSpent};
 ghost use Rattle.std.specs.Prelude.{◌≡◌, ◌↔◌, ◌<◌, ◌≤◌, ◌++◌, ◌∷◌, [], IfNone, IfOk, IfSome};
-ghost use Rattle.std.specs.Prelude.{IsTrue, MatchOption, None, OnErr, OnOk, OnSome, drop, length, map, min};
+ghost use Rattle.std.specs.Prelude.{IsTrue, MatchOption, None, OnErr, OnOk, OnSome, Some, drop, length, map, min};
 ghost use Rattle.std.specs.Prelude.{option_and_then, option_map, slice_get};
 ghost use Rattle.jp_document.specs.Location.{entries, step_of};
 ghost use Rattle.jp_document.specs.Node.{root_of};
 ghost use Rattle.jp_tree.specs.Tree.{segments as segment_trees};
 ghost use Rattle.jp_tree.specs.Views.{expr_of, segment_of, selector_of};
-ghost use Rattle.jp_lent.specs.Lending.{step_with};
+ghost use Rattle.jp_lent.specs.Lending.{entry_value, step_with};
 ghost use Rattle.jp_select.specs.Selectors.{candidates};
 ghost use Rattle.jp_select.specs.Steps.{IsSpent, Takes};
 ghost use Rattle.jp_evaluate.specs.Private.Sizes.{expr_size, segments_size, selector_size};
-ghost use Rattle.jp_evaluate.specs.Private.Walk.{choice_at, entered, frame_choices, offered};
+ghost use Rattle.jp_evaluate.specs.Private.Walk.{GivesChild, choice_at, entered, frame_choices, offered};
 ghost use Rattle.jp_evaluate.specs.Private.Walk.{passes, pending, reached_at, reached_node};
 ghost use Rattle.jp_evaluate.specs.Private.Walk.{segments_left, steps_of, walk_reaches};
 ghost use Rattle.jp_evaluate.specs.Private.Walk.{test_of, turn_of, turn_selector, turns};
@@ -25,7 +25,7 @@ use crate::filter::Asking;
 use jp_document::Step;
 use jp_lent::Selectable;
 use jp_match::Matching;
-use jp_select::{Steps, Stopped, candidate};
+use jp_select::{Steps, Stopped, candidate, slice_place};
 use jp_tree::{Expr, Segment, Selector};
 use std::alloc::{AllocError, Global};
 
@@ -152,6 +152,28 @@ impl<'d, V: Selectable + 'd> Walk<'d, V> {
                 }
             }
         }
+    }
+
+    /// The next value that segments reach, where it is the next one that a wildcard or a slice of the last segment
+    /// chooses at the frame that stands apart; else None, and nothing changes. It takes no step.
+    #[inline(always)]
+    pub(crate) fn next_child(&mut self, segments: &[Segment]) -> Option<V>
+        ensures gives { IfSome result (λ v. GivesChild V.meaning segments.now self.old v self.new) }
+        ensures none { IfNone result (self.new ≡ self.old) }
+    {
+        if self.first.is_some() {
+            return None;
+        }
+        let Some(frame) = &mut self.top else {
+            return None;
+        };
+        let turn = turn_at(segments, frame.reached.done, frame.turn)?;
+        if turn.done < segments.len() {
+            return None;
+        }
+        let child = turn.listed(frame.reached.value, frame.next)?;
+        frame.next += 1;
+        Some(child)
     }
 
     /// The next choice that may lead somewhere, None at the end. What it passes over takes steps.
@@ -507,6 +529,21 @@ impl<'q> Turn<'q> {
         match self.selector {
             Some(selector) => candidate(selector, value, position),
             None => value.child(position),
+        }
+    }
+
+    /// The value of that choice where a wildcard or a slice chooses, None for other selectors and on the way down.
+    #[inline(always)]
+    fn listed<'d, V: Selectable + 'd>(self, value: V, position: usize) -> Option<V>
+        ensures gives { IfSome result (λ v. Some (V.meaning v) ≡ option_map entry_value
+            (slice_get (candidates (turn_selector self.entry) (V.meaning value)) position)) }
+        ensures untested { OnSome result (test_of (turn_selector self.entry) ≡ None) }
+        ensures more { OnSome result (position < usize.MAX) }
+    {
+        match self.selector? {
+            Selector::Wildcard => value.child_value(position),
+            Selector::Slice(slice) => value.child_value(slice_place(value, *slice, position)?),
+            Selector::Name(_) | Selector::Index(_) | Selector::Filter(_) => None,
         }
     }
 

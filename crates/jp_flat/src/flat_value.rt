@@ -5,7 +5,7 @@ ghost use Rattle.jp_document.specs.Location.{child_entry, entries, named, nth};
 ghost use Rattle.jp_document.specs.Value.{list_length};
 ghost use Rattle.jp_flat.specs.Flat.{is_flat, meaning, shown};
 ghost use Rattle.jp_flat.specs.declared.item.Item.TheVariants.{Members};
-ghost use Rattle.jp_lent.specs.Lending.{bare, seen_value};
+ghost use Rattle.jp_lent.specs.Lending.{bare, entry_value, seen_value};
 
 use crate::item::{Item, Span};
 use crate::parts::{first_named, item_at, member_at, members, name_order, text_at};
@@ -93,6 +93,27 @@ impl<'d, 't> FlatValue<'d, 't> {
                 Some((Step::Index(position as u64), FlatValue { tables, item }))
             }
             Item::Members(span) => FlatValue::member_entry(tables, span, position),
+            Item::Null | Item::Bool(_) | Item::Above(_) | Item::Below(_) | Item::Text(_) => None,
+        }
+    }
+
+    /// The value that `child` gives, without its step.
+    #[inline(always)]
+    pub fn child_value(self, position: usize) -> Option<FlatValue<'d, 't>>
+        ensures value { option_map lent_flat result
+            ≡ option_map entry_value (slice_get (entries (lent_flat self.entry)) position) }
+        ensures more { OnSome result (position < usize.MAX) }
+    {
+        let tables = self.tables;
+        match self.item {
+            Item::List(span) => {
+                let item = item_at(tables, span, position)?;
+                Some(FlatValue { tables, item })
+            }
+            Item::Members(span) => {
+                let item = member_at(tables, span, position)?.item;
+                Some(FlatValue { tables, item })
+            }
             Item::Null | Item::Bool(_) | Item::Above(_) | Item::Below(_) | Item::Text(_) => None,
         }
     }

@@ -28,6 +28,11 @@ impl<'v, 't> Lent for FlatValue<'v, 't> {
     {
         FlatValue::child(self, position)
     }
+
+    #[inline(always)]
+    fn child_value(self, position: usize) -> Option<FlatValue<'v, 't>> {
+        FlatValue::child_value(self, position)
+    }
 }
 
 impl<'v, 't> Selectable for FlatValue<'v, 't> {

@@ -10,9 +10,9 @@ use Rattle.jp_document.specs.Value.{item, Members, no_members, member}
 
 abbrev mutual
   pub weight : Value → ℕ
-  weight (list vs) = suc (weight_items vs)
-  weight (object ms) = suc (weight_members ms)
-  weight _ = 1
+  weight (list vs) = suc (suc (weight_items vs))
+  weight (object ms) = suc (suc (weight_members ms))
+  weight _ = 2
 
   pub weight_items : Items → ℕ
   weight_items no_items = 0
@@ -39,6 +39,15 @@ inside_less (whole z) = omega arith
 inside_less (text s) = omega arith
 inside_less (list vs) = omega arith
 inside_less (object ms) = omega arith
+
+-- by more than one
+pub inside-far-less : (v : Value) → suc (weight_inside v) < weight v
+inside-far-less null = omega arith
+inside-far-less (boolean b) = omega arith
+inside-far-less (whole z) = omega arith
+inside-far-less (text s) = omega arith
+inside-far-less (list vs) = omega arith
+inside-far-less (object ms) = omega arith
 
 -- what is in a side's value weighs less than the side
 pub side_less : (a : Option Value) (v : Value) (t : ℕ) → a ≡ Some v → weight_of a ≡ t

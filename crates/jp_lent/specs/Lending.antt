@@ -10,6 +10,10 @@ use Rattle.jp_lent.specs.declared.seen.Seen.TheVariants as seen
 abbrev pub step_with : {V : Type 0} → (V → Value) → code.Step × V → Step × Value
 step_with f e = (step_of e.0, f e.1)
 
+-- the value without its step
+abbrev pub entry_value : Step × Value → Value
+entry_value e = e.1
+
 -- a value without what is in it: of a list and of an object the empty one
 abbrev pub bare : Value → Value
 bare (list vs) = list no_items

@@ -27,6 +27,13 @@ impl<'v> Lent for DocumentValue<'v> {
     {
         DocumentValue::child(self, position)
     }
+
+    fn child_value(self, position: usize) -> Option<DocumentValue<'v>> {
+        match DocumentValue::child(self, position) {
+            Some(part) => Some(part.1),
+            None => None,
+        }
+    }
 }
 
 impl<'v> Selectable for DocumentValue<'v> {

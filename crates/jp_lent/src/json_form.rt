@@ -37,6 +37,13 @@ impl<'v> Lent for &'v Json {
             Json::Null | Json::Bool(_) | Json::Whole(_) | Json::Text(_) => None,
         }
     }
+
+    fn child_value(self, position: usize) -> Option<&'v Json> {
+        match self.child(position) {
+            Some(part) => Some(part.1),
+            None => None,
+        }
+    }
 }
 
 /// What it is, without what is in it.

@@ -3,7 +3,7 @@
 ghost use Rattle.std.specs.Prelude.{◌≡◌, ◌<◌, OnSome, length, option_map, slice_get};
 ghost use Rattle.jp_document.specs.Location.{child_entry, entries, named};
 ghost use Rattle.jp_document.specs.Value.{IsDocumentValue, Value, list_length};
-ghost use Rattle.jp_lent.specs.Lending.{bare, seen_value, step_with};
+ghost use Rattle.jp_lent.specs.Lending.{bare, entry_value, seen_value, step_with};
 
 use crate::seen::Seen;
 use jp_document::Step;
@@ -32,6 +32,12 @@ pub trait Lent: Copy {
         Self: 'd,
         ensures entry { option_map (step_with meaning) result
             ≡ slice_get (entries (meaning self)) position }
+        ensures more { OnSome result (position < usize.MAX) };
+
+    /// The value that `child` gives, without its step.
+    fn child_value(self, position: usize) -> Option<Self>
+        ensures value { option_map meaning result
+            ≡ option_map entry_value (slice_get (entries (meaning self)) position) }
         ensures more { OnSome result (position < usize.MAX) };
 }
 

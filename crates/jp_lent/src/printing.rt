@@ -39,9 +39,29 @@ pub fn push_value<'d, V: Lent + 'd>(out: &mut String, value: V) -> Result<(), Al
         Seen::Bool(false) => out.push_str("false"),
         Seen::Whole(number) => push_integer(out, number),
         Seen::Text(text) => push_text(out, text),
-        Seen::List => push_enclosed(out, b'[', value, b']'),
-        Seen::Members => push_enclosed(out, b'{', value, b'}'),
+        Seen::List => push_copy(out, b'[', value, b']'),
+        Seen::Members => push_copy(out, b'{', value, b'}'),
     }
+}
+
+/// `push_enclosed` of a copy of the value, so that a value without parts does not go to memory for it.
+#[cycle(printing)]
+#[inline(always)]
+fn push_copy<'d, V: Lent + 'd>(
+    out: &mut String,
+    opening: u8,
+    value: V,
+    closing: u8,
+) -> Result<(), AllocError>
+    requires opening { opening < 128 }
+    requires closing { closing < 128 }
+    ensures ok { OnOk result (string_bytes out.new
+        ≡ string_bytes out.old ++ enclosed opening closing (V.meaning value)) }
+    ensures kept { IsPartAppended (string_bytes out.old) (enclosed opening closing (V.meaning value))
+        (string_bytes out.new) }
+{
+    let copy = value;
+    push_enclosed(out, opening, copy, closing)
 }
 
 /// Appends the texts of the parts between two marks. It stands apart, so that values without parts are

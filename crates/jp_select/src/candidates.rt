@@ -1,6 +1,7 @@
 //! The values that a selector chooses from, one by one (RFC 9535 section 2.3).
 
-ghost use Rattle.std.specs.Prelude.{◌≡◌, ◌<◌, OnSome, option_map, slice_get};
+ghost use Rattle.std.specs.Prelude.{◌≡◌, ◌<◌, OnSome, option_and_then, option_map, slice_get};
+ghost use Rattle.jp_document.specs.Location.{entries};
 ghost use Rattle.jp_tree.specs.Tree.{index as index_tree, slice as slice_tree};
 ghost use Rattle.jp_tree.specs.Views.{selector_of};
 ghost use Rattle.jp_lent.specs.Lending.{step_with};
@@ -77,8 +78,19 @@ fn slice_item<'d, V: Selectable + 'd>(
         ≡ slice_get (candidates (slice_tree slice) (V.meaning value)) position }
     ensures more { OnSome result (position < usize.MAX) }
 {
+    value.child(slice_place(value, slice, position)?)
+}
+
+/// Where the item of a list stands that has this position, from 0, among those that a slice selects (RFC
+/// 9535 section 2.3.4.2); None where there are no more, and for a value that is no list.
+#[inline(always)]
+pub fn slice_place<'d, V: Selectable + 'd>(value: V, slice: Slice, position: usize) -> Option<usize>
+    ensures place { option_and_then (slice_get (entries (V.meaning value))) result
+        ≡ slice_get (candidates (slice_tree slice) (V.meaning value)) position }
+    ensures more { OnSome result (position < usize.MAX) }
+{
     let length = value.list_length()?;
-    value.child(slice_index(length, slice, position as u64)? as usize)
+    Some(slice_index(length, slice, position as u64)? as usize)
 }
 
 /// Which of `length` items an index selects, counted from the end where it is negative.

@@ -29,7 +29,7 @@ mod selector;
 mod slice;
 mod steps;
 
-pub use candidates::{candidate, single};
+pub use candidates::{candidate, single, slice_place};
 pub use comparable::Comparable;
 pub use comparison::{compare, compare_lent, equal, less};
 pub use descent::{Descent, descend, descend_each};

@@ -4,7 +4,7 @@ use Rattle.std.specs.Prelude.{Option, Some, None, drop, map, option_map, option_
 use Rattle.std.specs.List.{All, flat_map}
 use Rattle.std.specs.Option.{option_map_or}
 use Rattle.jp_document.specs.Location.{Step, Location, entries, step_of}
-use Rattle.jp_document.specs.Node.{Node}
+use Rattle.jp_document.specs.Node.{Node, node_at}
 use Rattle.jp_document.specs.Value.{Value}
 use Rattle.jp_document.specs.declared.location.Step as code
 use Rattle.jp_tree.specs.Tree.{ExprTree, SegmentTree, SegmentTrees, SelectorTree, SelectorTrees}
@@ -184,6 +184,11 @@ reached_node m w p = record {
   location = reached_at [] (walk_frames w) ++ steps_of p.step;
   value = m p.value;
 }
+
+-- of the walk w a node of value x comes first, and v is what is left of it
+pub record GivesChild {V : Type 0} (m : V → Value) (all : List Segment) (w : Walk V) (x : V) (v : Walk V) : Type 0 where
+  pub place : Location
+  pub first : (d : Value) → walk_reaches m all d w ≡ node_at place (m x) ∷ walk_reaches m all d v
 
 -- ---- how many choices there are at most
 

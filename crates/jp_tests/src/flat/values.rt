@@ -2,7 +2,7 @@
 
 use jp_document::Step;
 use jp_flat::{FlatValue, flat_document};
-use jp_lent::{Seen, push_value};
+use jp_lent::{Seen, push_value, value_text};
 use std::alloc::{AllocError, Global};
 use std::test::Fail;
 
@@ -50,6 +50,38 @@ fn entries(rt: HostRuntime) -> Result<(), Fail> {
         let found = entry_text(rt.alloc(), root.member(name))?;
         assert_eq!(rt; found.as_str(), wanted);
     }
+    Ok(())
+}
+
+/// The compact text of a value, if there is one.
+fn alone(alloc: Global, value: Option<FlatValue<'_, '_>>) -> Result<String, AllocError> {
+    match value {
+        Some(value) => value_text(alloc, value),
+        None => Ok(String::new(alloc)),
+    }
+}
+
+#[test]
+fn values_without_their_steps(rt: HostRuntime) -> Result<(), Fail> {
+    let flat = flat_document(rt.alloc(), DOCUMENT).ok_or("no document")?;
+    let root = flat.value();
+    for (position, wanted) in [
+        (0, r#"[1,-2,"z",[]]"#),
+        (1, r#"{"k":null}"#),
+        (2, "true"),
+        (3, r#""x\ty""#),
+        (4, ""),
+    ] {
+        let found = alone(rt.alloc(), root.child_value(position))?;
+        assert_eq!(rt; found.as_str(), wanted);
+    }
+    let list = root.child_value(0).ok_or("no list")?;
+    for (position, wanted) in [(0, "1"), (3, "[]"), (4, "")] {
+        let found = alone(rt.alloc(), list.child_value(position))?;
+        assert_eq!(rt; found.as_str(), wanted);
+    }
+    let number = list.child_value(0).ok_or("no number")?;
+    assert_eq!(rt; alone(rt.alloc(), number.child_value(0))?.as_str(), "");
     Ok(())
 }
 

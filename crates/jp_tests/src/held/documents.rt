@@ -4,7 +4,7 @@ use jp_document::{
     DocumentFault, Node, Step, child_at, child_named, children, path_text, read_path,
 };
 use jp_held::Document;
-use jp_lent::value_text;
+use jp_lent::{Lent, value_text};
 use std::alloc::{AllocError, Global};
 use std::test::Fail;
 
@@ -91,6 +91,31 @@ fn steps_inside(rt: HostRuntime) -> Result<(), Fail> {
     assert_eq!(rt; item.as_str(), "$['a'][1] 3 of 2");
     let child = child_inside(rt.alloc(), br#"{"b":1,"a":2}"#, 1)?;
     assert_eq!(rt; child.as_str(), "$['b'] 1");
+    Ok(())
+}
+
+/// The compact text of the value at a position one step inside, if there is one.
+fn value_inside<'d, V: Lent + 'd>(
+    alloc: Global,
+    value: V,
+    position: usize,
+) -> Result<String, AllocError> {
+    match value.child_value(position) {
+        Some(child) => value_text(alloc, child),
+        None => Ok(String::new(alloc)),
+    }
+}
+
+#[test]
+fn values_without_their_steps(rt: HostRuntime) -> Result<(), Fail> {
+    let alloc = rt.alloc();
+    let document = Document::read(alloc, br#"{"b":1,"a":[2]}"#)?;
+    for (position, wanted) in [(0, "[2]"), (1, "1"), (2, "")] {
+        let lent = value_inside(alloc, document.value(), position)?;
+        assert_eq!(rt; lent.as_str(), wanted);
+        let json = value_inside(alloc, document.json(), position)?;
+        assert_eq!(rt; json.as_str(), wanted);
+    }
     Ok(())
 }
 

@@ -3,7 +3,7 @@
 ghost use Rattle.jp_document.specs.Value.{IsDocumentValue, value_of};
 
 use jp_document::{DocumentValue, Json, Node, parsed_value, path_text};
-use jp_select::{descend, descend_each, select_plain};
+use jp_select::{descend, descend_each, select_plain, slice_place};
 use jp_tree::{Numeral, Selector, Slice};
 use std::alloc::{AllocError, Global};
 use std::process::Abort;
@@ -145,5 +145,22 @@ fn slices(rt: HostRuntime) -> Result<(), Fail> {
     ] {
         assert_selects(&rt, alloc, LETTERS, &slice(start, end, step), expected)?;
     }
+    Ok(())
+}
+
+#[test]
+fn places_of_slices(rt: HostRuntime) -> Result<(), Fail> {
+    let letters = parsed_value(rt.alloc(), LETTERS)?;
+    let list = DocumentValue::of(&letters);
+    let slice = Slice {
+        start: Some(Numeral::Whole(5)),
+        end: Some(Numeral::Whole(1)),
+        step: Numeral::Whole(-2),
+    };
+    for (position, wanted) in [(0, Some(5)), (1, Some(3)), (2, None)] {
+        assert_eq!(rt; slice_place(list, slice, position), wanted);
+    }
+    let letter = list.child(0).ok_or("no letter")?;
+    assert_eq!(rt; slice_place(letter.1, slice, 0), None);
     Ok(())
 }

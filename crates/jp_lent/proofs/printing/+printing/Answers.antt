@@ -11,7 +11,7 @@ use Rattle.jp_lent.specs.Lending.{step_with}
 use Rattle.jp_lent.specs.Private.Printing.{name_text, part_text, part_texts}
 use Rattle.jp_lent.proofs.Parts.{joined_more, list-printed, next_part, no_part, nothing_more}
 use Rattle.jp_lent.proofs.Parts.{object-printed, part_more}
-use Rattle.jp_lent.proofs.Weights.{inside_less, part-far-within}
+use Rattle.jp_lent.proofs.Weights.{inside-far-less, part-far-within}
 use Rattle.jp_lent.proofs.printing.+printing.Goals as goal
 
 -- ---- a part
@@ -106,39 +106,34 @@ push_enclosed-returns-clause-kept g t c =
 
 -- ---- values
 
-pub push_value-push_enclosed-requires : goal.push_value-push_enclosed-requires
-push_value-push_enclosed-requires g t c κs within =
-    let less = inside_less (g.V.Lent.meaning c.args.value) in
-    (omega arith, (within, (omega arith, omega arith)))
-
-pub push_value-push_enclosed-requires-in-Members : goal.push_value-push_enclosed-requires-in-Members
-push_value-push_enclosed-requires-in-Members g t c κs within =
-    let less = inside_less (g.V.Lent.meaning c.args.value) in
+pub push_copy-push_enclosed-requires : goal.push_copy-push_enclosed-requires
+push_copy-push_enclosed-requires g t c κs within =
+    let less = inside-far-less (g.V.Lent.meaning c.args.value) in
     (omega arith, (within, (omega arith, omega arith)))
 
 pub push_value-returns-in-List-clause-ok : goal.push_value-returns-in-List-clause-ok
 push_value-returns-in-List-clause-ok g t c =
     let v = g.V.Lent.meaning c.args.value in
-    subst (λ x. OnOk c.push_enclosed.result
-    (string_bytes c.push_enclosed.new.out ≡ string_bytes c.args.out.now ++ x))
-    (list-printed v c.in-List.ensures) c.push_enclosed.ensures.ok
+    subst (λ x. OnOk c.push_copy.result
+    (string_bytes c.push_copy.new.out ≡ string_bytes c.args.out.now ++ x))
+    (list-printed v c.in-List.ensures) c.push_copy.ensures.ok
 
 pub push_value-returns-in-List-clause-kept : goal.push_value-returns-in-List-clause-kept
 push_value-returns-in-List-clause-kept g t c =
     let v = g.V.Lent.meaning c.args.value in
-    subst (λ x. IsPartAppended (string_bytes c.args.out.now) x (string_bytes c.push_enclosed.new.out))
-    (list-printed v c.in-List.ensures) c.push_enclosed.ensures.kept
+    subst (λ x. IsPartAppended (string_bytes c.args.out.now) x (string_bytes c.push_copy.new.out))
+    (list-printed v c.in-List.ensures) c.push_copy.ensures.kept
 
 pub push_value-returns-in-Members-clause-ok : goal.push_value-returns-in-Members-clause-ok
 push_value-returns-in-Members-clause-ok g t c =
     let v = g.V.Lent.meaning c.args.value in
-    subst (λ x. OnOk c.push_enclosed-in-Members.result
-    (string_bytes c.push_enclosed-in-Members.new.out ≡ string_bytes c.args.out.now ++ x))
-    (object-printed v c.in-Members.ensures) c.push_enclosed-in-Members.ensures.ok
+    subst (λ x. OnOk c.push_copy-in-Members.result
+    (string_bytes c.push_copy-in-Members.new.out ≡ string_bytes c.args.out.now ++ x))
+    (object-printed v c.in-Members.ensures) c.push_copy-in-Members.ensures.ok
 
 pub push_value-returns-in-Members-clause-kept : goal.push_value-returns-in-Members-clause-kept
 push_value-returns-in-Members-clause-kept g t c =
     let v = g.V.Lent.meaning c.args.value in
     subst (λ x. IsPartAppended (string_bytes c.args.out.now) x
-    (string_bytes c.push_enclosed-in-Members.new.out))
-    (object-printed v c.in-Members.ensures) c.push_enclosed-in-Members.ensures.kept
+    (string_bytes c.push_copy-in-Members.new.out))
+    (object-printed v c.in-Members.ensures) c.push_copy-in-Members.ensures.kept

@@ -11,6 +11,9 @@ use Rattle.jp_lent.proofs.printing.+printing.Given as goal
 abbrev pub decreases-push_value : goal.decreases-push_value
 decreases-push_value g l = suc (weight (g.V.Lent.meaning l.value))
 
+abbrev pub decreases-push_copy : goal.decreases-push_copy
+decreases-push_copy g l = weight (g.V.Lent.meaning l.value)
+
 abbrev pub decreases-push_enclosed : goal.decreases-push_enclosed
 decreases-push_enclosed g l = suc (weight_inside (g.V.Lent.meaning l.value))
 
