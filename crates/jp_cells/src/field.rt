@@ -87,6 +87,8 @@ fn is_marked(format: Format, byte: u8) -> bool
     ensures { result ≡ is_marked format byte }
 {
     match format {
+        // Small letters stand behind the last of those that have a spelling.
+        Format::Tabs if byte > b'\\' => false,
         Format::Tabs => matches!(byte, b'\t' | b'\n' | b'\r' | b'\\'),
         Format::Csv => byte == b'"',
     }
