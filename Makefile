@@ -39,6 +39,7 @@ test-hostile: ## runs of the proved programs where memory, stack or streams fail
 	hostile/run
 	hostile/lines
 	hostile/queries
+	hostile/steps
 	hostile/json
 	hostile/readers
 

@@ -1,9 +1,9 @@
 /* Measures the CPU time of a call over a document of about 1 KB, against libjq where it is:
  * `library [libjq.so.1]`, as bench/library runs it. A row: the query, microseconds a call of jp_eval (the query not read before), and
  * of libjq, its program compiled before, with parsing the document and printing what comes. Then ten queries
- * over the one document: by ten calls of jp_eval, by one of jp_eval_many, and by ten of jp_select. Then queries
- * that are short and long over documents of about 100 and 900 bytes: by jp_eval, and by jp_ask, with the query
- * kept. */
+ * over the one document: by ten calls of jp_eval, by one of jp_eval_many, and by ten of jp_ask_document. Then
+ * queries that are short and long over documents of about 100 and 900 bytes: by jp_eval, and by jp_ask, with the
+ * query kept. */
 #define _POSIX_C_SOURCE 200809L
 #include "jp.h"
 
@@ -11,6 +11,8 @@
 #include <stdio.h>
 #include <string.h>
 #include <time.h>
+
+static const struct jp_limit unlimited = JP_UNLIMITED;
 
 /* Of jq.h and jv.h, as of libjq 1.5 to 1.7: a value of 16 bytes, passed by value. */
 typedef struct {
@@ -56,7 +58,7 @@ static double measure_jp(const char *query, const char *bytes) {
         double start = seconds();
         for (int call = 0; call < 2000; call += 1) {
             jp_eval((const uint8_t *)query, strlen(query), (const uint8_t *)bytes, strlen(bytes), JP_VALUES, JP_STANDARD,
-                    JP_NO_LIMIT, out, sizeof out, &report);
+                    &unlimited, out, sizeof out, &report);
         }
         double took = (seconds() - start) / 2000;
         best = took < best ? took : best;
@@ -84,7 +86,7 @@ static int by_ten_calls(void) {
     int is_done = 1;
     for (int at = 0; at < TEN; at += 1) {
         uint32_t status = jp_eval((const uint8_t *)ten + at * SIZE, SIZE, (const uint8_t *)document, strlen(document),
-                                  JP_VALUES, JP_STANDARD, JP_NO_LIMIT, answer, sizeof answer, &report);
+                                  JP_VALUES, JP_STANDARD, &unlimited, answer, sizeof answer, &report);
         is_done = is_done && status == JP_DONE && report.length > 0;
     }
     return is_done;
@@ -97,7 +99,7 @@ static int by_one_call(void) {
         questions[at].size = SIZE;
     }
     jp_eval_many((const uint8_t *)ten, TEN * SIZE, questions, TEN, (const uint8_t *)document, strlen(document),
-                 JP_VALUES, JP_STANDARD, JP_NO_LIMIT, answer, sizeof answer);
+                 JP_VALUES, JP_STANDARD, &unlimited, answer, sizeof answer);
     int is_done = 1;
     for (size_t at = 0; at < TEN; at += 1) {
         is_done = is_done && questions[at].report.status == JP_DONE && questions[at].report.length > 0;
@@ -109,10 +111,11 @@ static struct jp_handle kept_document = JP_EMPTY, kept_queries[TEN];
 
 static int by_handles(void) {
     struct jp_report report;
+    struct jp_text text;
     int is_done = 1;
     for (int at = 0; at < TEN; at += 1) {
-        uint32_t status = jp_select(&kept_queries[at], &kept_document, JP_VALUES, JP_NO_LIMIT, answer,
-                                    sizeof answer, &report);
+        uint32_t status = jp_ask_document(&kept_queries[at], &kept_document, JP_VALUES, 0, JP_ALL, &unlimited, &text,
+                                          &report);
         is_done = is_done && status == JP_DONE && report.length > 0;
     }
     return is_done;
@@ -140,7 +143,7 @@ static void measure_ten(void) {
     for (int at = 0; at < TEN; at += 1) {
         jp_query_new((const uint8_t *)ten + at * SIZE, SIZE, JP_STANDARD, &kept_queries[at], &report);
     }
-    printf("ten queries: by jp_eval %.1f, by jp_eval_many %.1f, by jp_select %.1f\n", 1e6 * measure(by_ten_calls),
+    printf("ten queries: by jp_eval %.1f, by jp_eval_many %.1f, by jp_ask_document %.1f\n", 1e6 * measure(by_ten_calls),
            1e6 * measure(by_one_call), 1e6 * measure(by_handles));
     jp_clear(&kept_document);
     for (int at = 0; at < TEN; at += 1) {
@@ -173,7 +176,7 @@ static double measure_ask(const char *query, const char *bytes) {
     for (int round = 0; round < 5; round += 1) {
         double start = seconds();
         for (int call = 0; call < 2000; call += 1) {
-            jp_ask(&kept, (const uint8_t *)bytes, strlen(bytes), JP_VALUES, 0, JP_ALL, JP_NO_LIMIT, &text, &report);
+            jp_ask(&kept, (const uint8_t *)bytes, strlen(bytes), JP_VALUES, 0, JP_ALL, &unlimited, &text, &report);
         }
         double took = (seconds() - start) / 2000;
         best = took < best ? took : best;

@@ -94,14 +94,24 @@ def refused_run(program, library, number, words, document, **environment):
     return came, given
 
 
-def held_at_most(program, library, words, document):
-    """What a run gave, and how many bytes it held at most."""
+def told_by_library(program, library, words, document, what):
+    """What a run gave, and the number that the library tells at its end."""
     inner, outer = os.pipe()
-    given = run(program, words, document, {"LD_PRELOAD": library, "TELL_HELD": "1"}, marks=outer)
+    given = run(program, words, document, {"LD_PRELOAD": library, what: "1"}, marks=outer)
     os.close(outer)
     told = os.read(inner, 20)
     os.close(inner)
     return given, int(told)
+
+
+def held_at_most(program, library, words, document):
+    """What a run gave, and how many bytes it held at most."""
+    return told_by_library(program, library, words, document, "TELL_HELD")
+
+
+def requests_of(program, library, words, document):
+    """What a run gave, and how often it asked for memory."""
+    return told_by_library(program, library, words, document, "TELL_REQUESTS")
 
 
 def refuse_growths(runs, library, program, words, document, whole, less=(), closing="", **environment):
@@ -130,6 +140,28 @@ def refuse_growths(runs, library, program, words, document, whole, less=(), clos
     what = " ".join([*words, document.strip()])
     print(f"hostile: {len(statuses)} growths refused of {what[:60]}")
     return statuses
+
+
+# A text in lists, each of which but the first is one level deeper than the one before, so that a walk asks for memory
+# between them; and the values by `$..*`, a few of which fill a buffer.
+LONG = '"' + 10_000 * "a" + '"'
+DEEPENING = "[7," + 60 * "[" + LONG + 60 * "]" + "]\n"
+DEEPENING_VALUES = "7\n" + "".join(depth * "[" + LONG + depth * "]" + "\n" for depth in range(60, -1, -1))
+
+
+def write_in_turn(runs, library, program, words, is_in_turn):
+    """Whether a run has written the first values of `DEEPENING` where memory is refused later on."""
+    given = run(program, words, DEEPENING)
+    runs.expect(given == (0, DEEPENING_VALUES, ""), f"{words}: {given[0]} {given[2]}")
+    came, number, lengths = True, 0, set()
+    while came:
+        number += 1
+        came, (status, printed, _) = refused_run(program, library, number, words, DEEPENING)
+        if status == 4:
+            lengths.add(len(printed))
+            runs.expect(DEEPENING_VALUES.startswith(printed), f"{words} with request {number} refused")
+    runs.expect(0 in lengths and (len(lengths) > 1) == is_in_turn, f"{words}: {lengths} bytes are written")
+    print(f"hostile: {number - 1} growths refused of {' '.join(words)} over nodes ever deeper")
 
 
 def counted_run(program, calls, words, document, output=None, **environment):

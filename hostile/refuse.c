@@ -2,7 +2,7 @@
  *
  * It refuses one request, the one whose number, from 1, is in REFUSED_REQUEST, and then writes a
  * byte to descriptor 3. Where TELL_HELD is set, it writes there at the program's end how many bytes
- * were held at most. */
+ * were held at most, and where TELL_REQUESTS is set, how many requests came. */
 #include <errno.h>
 #include <malloc.h>
 #include <stdio.h>
@@ -19,7 +19,8 @@ static size_t most_held;
 
 static int is_refused(void) {
     const char *number = getenv("REFUSED_REQUEST");
-    if (number == NULL || ++requests != atol(number)) {
+    ++requests;
+    if (number == NULL || requests != atol(number)) {
         return 0;
     }
     errno = ENOMEM;
@@ -51,8 +52,11 @@ void free(void *old) {
     __libc_free(old);
 }
 
-__attribute__((destructor)) static void tell_held(void) {
+__attribute__((destructor)) static void tell(void) {
     if (getenv("TELL_HELD") != NULL) {
         dprintf(3, "%zu", most_held);
+    }
+    if (getenv("TELL_REQUESTS") != NULL) {
+        dprintf(3, "%ld", requests);
     }
 }

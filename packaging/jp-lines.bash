@@ -11,7 +11,7 @@ _jp_lines() {
         mapfile -t COMPREPLY < <(compgen -W "eval paths both count keep columns" -- "$word")
     elif [[ $word == -* ]]; then
         mapfile -t COMPREPLY < <(compgen -W "$(_jp_lines_flags)" -- "$word")
-    elif _jp_lines_is_asked && [[ ! $before =~ ^--(limit|reports)$ ]]; then
+    elif _jp_lines_is_asked && [[ ! $before =~ ^--(limit|max-nodes|max-bytes|reports)$ ]]; then
         compopt -o default
     fi
 }
@@ -20,7 +20,7 @@ _jp_lines() {
 _jp_lines_is_asked() {
     local word before=
     for word in "${COMP_WORDS[@]:2:COMP_CWORD-2}"; do
-        [[ $word == -?* || $word == = || $before =~ ^(--limit|--reports|=)$ ]] || return 0
+        [[ $word == -?* || $word == = || $before =~ ^(--limit|--max-nodes|--max-bytes|--reports|=)$ ]] || return 0
         before=$word
     done
     return 1
@@ -34,7 +34,7 @@ _jp_lines_flags() {
     [ "${COMP_WORDS[1]}" != keep ] || own=()
     [ "${COMP_WORDS[1]}" != columns ] || own=(--csv --raw --names)
     for flag in --extended --number "${own[@]}" --keep-going --line-buffered --explain --exit-status --summary \
-        --reports --limit; do
+        --reports --limit --max-nodes --max-bytes; do
         [[ $before == *" $flag "* ]] || echo "$flag"
     done
 }

@@ -7,6 +7,8 @@
 #include <stdlib.h>
 #include <string.h>
 
+static const struct jp_limit unlimited = JP_UNLIMITED;
+
 void *__real_malloc(size_t size);
 void *__real_realloc(void *block, size_t size);
 
@@ -82,7 +84,7 @@ static void try_row(size_t at) {
     for (int call = 0; call < 4; call += 1) {
         before = call == 2 ? requests : before;
         uint32_t status = jp_ask(&query, (const uint8_t *)DOCUMENT, strlen(DOCUMENT), rows[at].form, rows[at].from,
-                                 rows[at].count, JP_NO_LIMIT, &text, &report);
+                                 rows[at].count, &unlimited, &text, &report);
         expect(status == JP_DONE && report.status == status && report.length == text.length, "the report",
                rows[at].query);
         expect(is_text(&text, rows[at].text), "the text", rows[at].query);
@@ -93,7 +95,7 @@ static void try_row(size_t at) {
     for (int call = 0; call < 4; call += 1) {
         before = call == 2 ? requests : before;
         uint32_t status = jp_ask_document(&query, &document, rows[at].form, rows[at].from, rows[at].count,
-                                          JP_NO_LIMIT, &text, &report);
+                                          &unlimited, &text, &report);
         expect(status == JP_DONE && report.length == text.length, "the report of a document", rows[at].query);
         expect(is_text(&text, rows[at].text), "the text of a document", rows[at].query);
     }
@@ -104,7 +106,8 @@ static void try_row(size_t at) {
 
 static uint32_t ask(struct jp_handle *query, const char *document, uint64_t limit, struct jp_text *text,
                     struct jp_report *report) {
-    return jp_ask(query, (const uint8_t *)document, strlen(document), JP_VALUES, 0, JP_ALL, limit, text, report);
+    const struct jp_limit most = {limit, 0, 0};
+    return jp_ask(query, (const uint8_t *)document, strlen(document), JP_VALUES, 0, JP_ALL, &most, text, report);
 }
 
 /* One document after another: nothing of the one before is left. */
@@ -150,12 +153,12 @@ static void try_refused(void) {
     expect(ask(&query, "[1,]", JP_NO_LIMIT, &text, &report) == JP_DOCUMENT_REFUSED && text.length == 0
                && report.kind == JP_NOT_JSON,
            "no JSON", "[1,]");
-    expect(jp_ask(&query, (const uint8_t *)"[]", 2, 3, 0, JP_ALL, JP_NO_LIMIT, &text, &report) == JP_USAGE
+    expect(jp_ask(&query, (const uint8_t *)"[]", 2, 3, 0, JP_ALL, &unlimited, &text, &report) == JP_USAGE
                && text.length == 0,
            "no form", "3");
     expect(ask(&query, "{\"a\":[7,8]}", JP_NO_LIMIT, &text, &report) == JP_DONE && is_text(&text, "7\n8\n"),
            "an answer again", "");
-    expect(jp_ask_document(&query, &none, JP_VALUES, 0, JP_ALL, JP_NO_LIMIT, &text, &report) == JP_USAGE
+    expect(jp_ask_document(&query, &none, JP_VALUES, 0, JP_ALL, &unlimited, &text, &report) == JP_USAGE
                && text.length == 0,
            "no document", "");
     jp_clear(&query);
@@ -167,6 +170,54 @@ static void keep_document(const char *document, struct jp_handle *handle) {
     uint8_t room[1];
     uint32_t status = jp_document_new((const uint8_t *)document, strlen(document), handle, room, 0, &report);
     expect(status == JP_DONE, "a document kept", "");
+}
+
+/* A query, what is asked for, and of the lines of paths how many there are and how many bytes they have: so many are
+ * given, and with a limit of one less nothing is; then all are given again. */
+static const struct {
+    const char *query;
+    uint64_t from, count, nodes, bytes;
+} outputs[] = {
+    {"$.a[0]", 0, JP_ALL, 1, 10},
+    {"$.a[0,0]", 0, JP_ALL, 2, 20},
+    {"$.a[*]", 0, JP_ALL, 3, 30},
+    {"$.a[*]", 0, 2, 2, 20},
+    {"$.a[*]", 1, JP_ALL, 2, 20},
+    {"$.a[3]", 0, JP_ALL, 0, 0},
+};
+
+static void try_output(size_t row) {
+    const uint64_t nodes = outputs[row].nodes, bytes = outputs[row].bytes;
+    const struct {
+        struct jp_limit limit;
+        uint32_t status;
+    } limits[] = {
+        {{0, nodes, bytes}, JP_DONE},
+        {{0, nodes - 1, bytes}, nodes < 2 ? JP_DONE : JP_TOO_MANY_NODES},
+        {{0, nodes, bytes - 1}, bytes == 0 ? JP_DONE : JP_TOO_MANY_BYTES},
+        {{0, nodes - 1, bytes - 1}, bytes == 0 ? JP_DONE : nodes < 2 ? JP_TOO_MANY_BYTES
+                                                                     : JP_TOO_MANY_NODES},
+        {{0, nodes, 1}, bytes == 0 ? JP_DONE : JP_TOO_MANY_BYTES},
+        {{0, 0, 0}, JP_DONE},
+    };
+    struct jp_handle query = JP_EMPTY, document = JP_EMPTY;
+    struct jp_report report;
+    struct jp_text text;
+    keep_query(outputs[row].query, &query);
+    keep_document(DOCUMENT, &document);
+    for (size_t at = 0; at < sizeof limits / sizeof limits[0]; at += 1) {
+        const size_t length = limits[at].status == JP_DONE ? bytes : 0;
+        jp_ask(&query, (const uint8_t *)DOCUMENT, strlen(DOCUMENT), JP_PATHS, outputs[row].from, outputs[row].count,
+               &limits[at].limit, &text, &report);
+        expect(report.status == limits[at].status && report.length == length && text.length == length,
+               "so much and no more", outputs[row].query);
+        jp_ask_document(&query, &document, JP_PATHS, outputs[row].from, outputs[row].count, &limits[at].limit, &text,
+                        &report);
+        expect(report.status == limits[at].status && report.length == length && text.length == length,
+               "so much of a document that is kept", outputs[row].query);
+    }
+    jp_clear(&query);
+    jp_clear(&document);
 }
 
 /* The first node, and whether there is one. */
@@ -303,7 +354,7 @@ static void try_many(void) {
         }
         strcpy(end, "]");
         keep_document(list, &document);
-        jp_ask_document(&query, &document, JP_BOTH, 0, JP_ALL, JP_NO_LIMIT, &text, &report);
+        jp_ask_document(&query, &document, JP_BOTH, 0, JP_ALL, &unlimited, &text, &report);
         const uint64_t once = report.steps;
         uint64_t steps[2];
         size_t before = 0;
@@ -312,7 +363,7 @@ static void try_many(void) {
             go_through(&query, &document, counts[row], steps);
         }
         expect(requests == before, "no request for memory of a cursor", "");
-        expect(steps[0] < 12 && steps[1] <= 3 * once + 64, "few steps for one node, and three walks for all", "");
+        expect(steps[0] < 12 && steps[1] <= 3 * once, "few steps for one node, and three walks for all", "");
         /* Each page has the whole limit, and one that needs more is asked for again. */
         struct jp_cursor cursor = JP_START;
         struct jp_node node;
@@ -323,6 +374,107 @@ static void try_many(void) {
     }
     free(list);
     jp_clear(&query);
+    jp_clear(&document);
+}
+
+/* Where the nodes stand in a list of 2,000 numbers, from one on and up to one, each so many. */
+static const struct {
+    const char *where;
+    int from, to, each;
+} spreads[] = {
+    {"all", 0, 2000, 1},
+    {"early", 0, 20, 1},
+    {"late", 1800, 2000, 1},
+    {"the last ones", 1980, 2000, 1},
+    {"rare", 99, 2000, 100},
+    {"none", 2000, 2000, 1},
+    {"half", 1000, 2000, 1},
+    {"the first and the last", 0, 2000, 1999},
+    {"second", 1, 2, 1},
+    {"a third", 667, 2000, 1},
+    {"seldom", 3, 2000, 400},
+    {"the last", 1999, 2000, 1},
+};
+
+static void keep_spread(size_t row, struct jp_handle *document) {
+    static char list[4002];
+    for (int at = 0; at < 2000; at += 1) {
+        const int from = spreads[row].from, each = spreads[row].each;
+        const int is_node = at >= from && at < spreads[row].to && (at - from) % each == 0;
+        list[2 * at] = at == 0 ? '[' : ',';
+        list[2 * at + 1] = is_node ? '1' : '0';
+    }
+    strcpy(list + 4000, "]");
+    keep_document(list, document);
+}
+
+/* Goes on to the end, or until steps are used up. Gives how many nodes there were, and adds the steps. */
+static uint64_t go_on(struct jp_cursor *cursor, struct jp_handle *query, struct jp_handle *document, uint64_t limit,
+                      uint64_t *steps) {
+    struct jp_report report;
+    struct jp_node node = {{NULL, 1}, {NULL, 0}};
+    while (node.path.length > 0) {
+        jp_next(cursor, query, document, limit, &node, &report);
+        *steps += report.steps;
+    }
+    return cursor->given;
+}
+
+/* Wherever the nodes stand: the first takes what it takes alone, and all of them at most three times what they take
+ * at once, also of those that are left where a limit stopped before; and with a limit three times that. */
+static void try_spread(size_t row) {
+    struct jp_handle query = JP_EMPTY, document = JP_EMPTY;
+    struct jp_report report, first;
+    struct jp_text text;
+    struct jp_node node;
+    keep_query("$[?@==1]", &query);
+    keep_spread(row, &document);
+    jp_ask_document(&query, &document, JP_BOTH, 0, 1, &unlimited, &text, &first);
+    struct jp_cursor cursor = JP_START;
+    jp_next(&cursor, &query, &document, JP_NO_LIMIT, &node, &report);
+    expect(report.steps == first.steps, "the first node as dear as alone", spreads[row].where);
+    jp_ask_document(&query, &document, JP_PATHS, 0, JP_ALL, &unlimited, &text, &report);
+    uint64_t nodes = 0;
+    for (size_t at = 0; at < text.length; at += 1) {
+        nodes += text.start[at] == '\n';
+    }
+    const uint64_t limits[] = {JP_NO_LIMIT, 1, first.steps, report.steps / 2, report.steps - 1, report.steps};
+    for (size_t at = 0; at < sizeof limits / sizeof limits[0]; at += 1) {
+        uint64_t steps = 0;
+        cursor = (struct jp_cursor)JP_START;
+        const uint64_t some = go_on(&cursor, &query, &document, limits[at], &steps);
+        const int is_whole = limits[at] == JP_NO_LIMIT || limits[at] >= report.steps;
+        expect(is_whole ? some == nodes && steps <= 3 * report.steps : some <= nodes && steps <= 3 * limits[at],
+               "three times the steps of one call, or the limit", spreads[row].where);
+        steps = 0;
+        expect(go_on(&cursor, &query, &document, JP_NO_LIMIT, &steps) == nodes && steps <= 3 * report.steps,
+               "what is left in three times the steps of one call", spreads[row].where);
+    }
+    jp_clear(&query);
+    jp_clear(&document);
+}
+
+/* Pages whole: together they are the lines of all nodes. */
+static void try_pages(void) {
+    struct jp_handle query = JP_EMPTY, document = JP_EMPTY, other = JP_EMPTY;
+    struct jp_cursor cursor = JP_START;
+    struct jp_report report;
+    struct jp_text lines = {NULL, 1}, all;
+    size_t length = 0;
+    keep_query("$[?@==1]", &query);
+    keep_query("$[?@==1]", &other);
+    keep_spread(0, &document);
+    jp_ask_document(&other, &document, JP_BOTH, 0, JP_ALL, &unlimited, &all, &report);
+    while (lines.length > 0) {
+        expect(jp_next_page(&cursor, &query, &document, JP_NO_LIMIT, &lines, &report) == JP_DONE
+                   && report.length == lines.length && length + lines.length <= all.length
+                   && (lines.length == 0 || memcmp(lines.start, all.start + length, lines.length) == 0),
+               "the next page", "");
+        length += lines.length;
+    }
+    expect(length == all.length && cursor.given == 2000, "all pages", "");
+    jp_clear(&query);
+    jp_clear(&other);
     jp_clear(&document);
 }
 
@@ -343,7 +495,7 @@ static void try_long(long calls) {
         const char *bytes = documents[call / 4 % 3];
         ask(&walks, bytes, JP_NO_LIMIT, &text, &report);
         ask(&named, bytes, JP_NO_LIMIT, &text, &report);
-        jp_ask_document(&named, &document, JP_BOTH, 0, 1, JP_NO_LIMIT, &text, &report);
+        jp_ask_document(&named, &document, JP_BOTH, 0, 1, &unlimited, &text, &report);
         if (jp_next(&cursor, &walks, &document, JP_NO_LIMIT, &node, &report) == JP_DONE) {
             cursor = (struct jp_cursor)JP_START;
         }
@@ -360,10 +512,17 @@ int main(int count, char **words) {
     }
     try_changing();
     try_refused();
+    for (size_t row = 0; row < sizeof outputs / sizeof outputs[0]; row += 1) {
+        try_output(row);
+    }
     try_first();
     try_cursor();
     try_steps();
     try_many();
+    for (size_t row = 0; row < sizeof spreads / sizeof spreads[0]; row += 1) {
+        try_spread(row);
+    }
+    try_pages();
     try_long(count > 1 ? atol(words[1]) : 1000000);
     return failures == 0 ? 0 : 1;
 }

@@ -1,9 +1,18 @@
 /* Calls of jp.h over the proved ones: the first node, whether there is one, and one node after another. What is
  * asked for is lines of nodes, each of a path, a tab, a value and a newline, and these calls cut them.
  *
- * No walk through a document outlives a call, so a cursor asks for pages. Each begins where the one before
- * ended, and has one node more than all before it have together: 1, 2, 4 and so on. So the first node costs
- * what it costs alone, and each page is dearer than all before it: all nodes cost three walks at most.
+ * No walk through a document outlives a call, so a cursor asks for pages, each in an evaluation that passes over the
+ * nodes before it. `steps` are those of all its evaluations, and `known` those of the dearest. One evaluation of all
+ * nodes needs at least as many as that: what finds the first nodes does a part of what finds all, and where steps are
+ * used up all nodes need more. The rule keeps `steps` within twice `known`:
+ *
+ * - The first evaluation is for one node, which so costs what it costs alone.
+ * - One for all nodes that are left may make four times `steps`. Where these are used up, `steps` is five times what
+ *   it was and `known` four times.
+ * - One for the next page, which has one node more than were given, may make what is missing to twice `known`.
+ *
+ * The last evaluation needs no more than one of all nodes. So all of them make at most three times as many steps as
+ * that one, wherever the nodes stand; and where the caller has a limit, three times that.
  */
 #include "jp.h"
 
@@ -29,10 +38,16 @@ static struct jp_node first_of(struct jp_text *lines, struct jp_report *report) 
     return node;
 }
 
+/* A limit of steps alone. */
+static struct jp_limit steps_alone(uint64_t steps) {
+    return (struct jp_limit){steps, 0, 0};
+}
+
 uint32_t jp_first(struct jp_handle *query, const uint8_t *document, size_t document_length, uint64_t limit,
                   struct jp_node *node, struct jp_report *report) {
     struct jp_text lines = {NULL, 0};
-    const uint32_t status = jp_ask(query, document, document_length, JP_BOTH, 0, 1, limit, &lines, report);
+    const struct jp_limit most = steps_alone(limit);
+    const uint32_t status = jp_ask(query, document, document_length, JP_BOTH, 0, 1, &most, &lines, report);
     *node = status == JP_DONE ? first_of(&lines, report) : (struct jp_node){lines, {0, 0}};
     return status;
 }
@@ -40,39 +55,108 @@ uint32_t jp_first(struct jp_handle *query, const uint8_t *document, size_t docum
 uint32_t jp_exists(struct jp_handle *query, const uint8_t *document, size_t document_length, uint64_t limit,
                    uint32_t *exists, struct jp_report *report) {
     struct jp_text path = {NULL, 0};
-    const uint32_t status = jp_ask(query, document, document_length, JP_PATHS, 0, 1, limit, &path, report);
+    const struct jp_limit most = steps_alone(limit);
+    const uint32_t status = jp_ask(query, document, document_length, JP_PATHS, 0, 1, &most, &path, report);
     *exists = status == JP_DONE && path.length > 0;
     report->length = status == JP_DONE ? 0 : report->length;
     return status;
 }
 
+/* How many nodes an evaluation is asked for, and how many steps it may make; 0 where it is not to be made. */
+struct run {
+    uint64_t count;
+    uint64_t limit;
+};
+
+static uint64_t smaller(uint64_t one, uint64_t other) {
+    return one < other ? one : other;
+}
+
+/* The next evaluation of a cursor's, of which none may make more than so many steps. */
+static struct run next_run(const struct jp_cursor *cursor, uint64_t most) {
+    const uint64_t left = smaller(2 * cursor->known - cursor->steps, most);
+    if (cursor->steps == 0) {
+        return (struct run){cursor->given + 1, most};
+    }
+    if (left > cursor->page) {
+        return (struct run){cursor->given + 1, left};
+    }
+    return (struct run){JP_ALL, cursor->known < most ? smaller(4 * cursor->steps, most) : 0};
+}
+
+/* Notes what an evaluation told, which gave a page or used up its steps. */
+static void note_run(struct jp_cursor *cursor, struct run run, const struct jp_report *report) {
+    cursor->known = report->steps > cursor->known ? report->steps : cursor->known;
+    /* More than that are made where the caller's limit is below four times the steps, and not counted. */
+    cursor->steps = smaller(cursor->steps + report->steps, 2 * cursor->known);
+    if (report->status == JP_DONE || run.count != JP_ALL) {
+        cursor->page = report->steps;
+    }
+    if (report->status == JP_DONE) {
+        cursor->asked = run.count == JP_ALL ? UINT64_MAX : cursor->given + run.count;
+    }
+}
+
 /* Asks for the next page. */
 static uint32_t turn_page(struct jp_cursor *cursor, struct jp_handle *query, struct jp_handle *document,
                           uint64_t limit, struct jp_report *report) {
-    const uint64_t count = cursor->given + 1;
-    struct jp_text lines = {NULL, 0};
-    const uint32_t status = jp_ask_document(query, document, JP_BOTH, cursor->given, count, limit, &lines, report);
-    if (status == JP_DONE) {
-        cursor->asked = cursor->given + count;
-        cursor->lines = lines;
+    const uint64_t most = limit == JP_NO_LIMIT ? UINT64_MAX : limit;
+    struct jp_cursor next = *cursor;
+    uint64_t steps = 0;
+    *report = (struct jp_report){JP_STEPS_USED_UP, 0, 0, 0, 0};
+    for (struct run run = next_run(&next, most); run.limit > 0; run = next_run(&next, most)) {
+        const struct jp_limit allowed = steps_alone(run.limit);
+        jp_ask_document(query, document, JP_BOTH, next.given, run.count, &allowed, &next.lines, report);
+        if (report->status != JP_DONE && report->status != JP_STEPS_USED_UP) {
+            return report->status;
+        }
+        note_run(&next, run, report);
+        steps += report->steps;
+        if (report->status == JP_DONE) {
+            break;
+        }
     }
-    return status;
+    report->steps = steps;
+    /* The first page has the whole limit whenever it is asked for. */
+    if (next.asked > 0) {
+        *cursor = next;
+    }
+    return report->status;
+}
+
+/* Sees to it that the cursor has a page, unless the last was given. */
+static uint32_t hold_page(struct jp_cursor *cursor, struct jp_handle *query, struct jp_handle *document,
+                          uint64_t limit, struct jp_report *report) {
+    *report = (struct jp_report){JP_DONE, 0, 0, 0, 0};
+    /* A page with fewer nodes than were asked for was the last. */
+    if (cursor->lines.length > 0 || cursor->given != cursor->asked) {
+        return JP_DONE;
+    }
+    return turn_page(cursor, query, document, limit, report);
 }
 
 uint32_t jp_next(struct jp_cursor *cursor, struct jp_handle *query, struct jp_handle *document, uint64_t limit,
                  struct jp_node *node, struct jp_report *report) {
     *node = no_node;
-    *report = (struct jp_report){JP_DONE, 0, 0, 0, 0};
-    /* A page with fewer nodes than were asked for was the last. */
-    if (cursor->lines.length == 0 && cursor->given == cursor->asked) {
-        const uint32_t status = turn_page(cursor, query, document, limit, report);
-        if (status != JP_DONE) {
-            return status;
+    if (hold_page(cursor, query, document, limit, report) == JP_DONE) {
+        *node = first_of(&cursor->lines, report);
+        cursor->given += node->path.length > 0;
+    }
+    return report->status;
+}
+
+uint32_t jp_next_page(struct jp_cursor *cursor, struct jp_handle *query, struct jp_handle *document, uint64_t limit,
+                      struct jp_text *lines, struct jp_report *report) {
+    *lines = (struct jp_text){NULL, 0};
+    if (hold_page(cursor, query, document, limit, report) == JP_DONE) {
+        *lines = cursor->lines;
+        report->length = lines->length;
+        while (cursor->lines.length > 0) {
+            take_line(&cursor->lines);
+            cursor->given += 1;
         }
     }
-    *node = first_of(&cursor->lines, report);
-    cursor->given += node->path.length > 0;
-    return JP_DONE;
+    return report->status;
 }
 
 /* How many bytes a name has, up to the quotation mark that ends it, or all that there are. */

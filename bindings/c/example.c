@@ -12,6 +12,8 @@
 #include <stdlib.h>
 #include <string.h>
 
+static const struct jp_limit unlimited = JP_UNLIMITED;
+
 struct text {
     uint8_t *at;
     size_t length;
@@ -79,7 +81,7 @@ static uint32_t make(const struct call *call, uint8_t *out, size_t room, struct 
                     : strcmp(call->form, "paths") == 0 ? JP_PATHS
                                                        : JP_BOTH;
     return jp_eval(query, length, call->document.at, call->document.length, form, call->profile,
-                   JP_NO_LIMIT, out, room, report);
+                   &unlimited, out, room, report);
 }
 
 int main(int count, char **words) {

@@ -12,6 +12,8 @@
 #include <sys/wait.h>
 #include <unistd.h>
 
+static const struct jp_limit unlimited = JP_UNLIMITED;
+
 #define THREADS 4
 #define FORKS 50
 #define QUERY "$..b"
@@ -39,7 +41,7 @@ static void keep(struct jp_handle *query) {
 static void ask(struct jp_handle *query) {
     struct jp_report report;
     struct jp_text text;
-    jp_ask(query, (const uint8_t *)DOCUMENT, strlen(DOCUMENT), JP_VALUES, 0, JP_ALL, JP_NO_LIMIT, &text, &report);
+    jp_ask(query, (const uint8_t *)DOCUMENT, strlen(DOCUMENT), JP_VALUES, 0, JP_ALL, &unlimited, &text, &report);
     expect(is_answer(text.start, text.length), "what a kept query answers");
 }
 
@@ -59,7 +61,7 @@ static void ask_anew(void) {
     jp_clear(&query);
     jp_clear(&document);
     jp_eval((const uint8_t *)QUERY, strlen(QUERY), (const uint8_t *)DOCUMENT, strlen(DOCUMENT), JP_VALUES,
-            JP_STANDARD, JP_NO_LIMIT, out, sizeof out, &report);
+            JP_STANDARD, &unlimited, out, sizeof out, &report);
     expect(is_answer(out, report.length), "what is not kept answers");
 }
 

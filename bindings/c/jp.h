@@ -47,12 +47,13 @@ extern "C" {
 #define JP_STACK 737280
 
 /* Some queries take years over a document of a few bytes. So a call that evaluates takes a limit of
- * steps, which count its work; docs/QUERIES.md says what a step is. */
+ * steps, which count its work; docs/QUERIES.md says what a step is. Others give many times the bytes of the
+ * document. So a call that gives all nodes takes a limit of nodes and bytes too. */
 #define JP_NO_LIMIT 0
 
 /* Made from bindings/numbers.json by `.ci/numbers --write`. */
 
-/* Statuses, as the program jp ends with them, but for the last two, which it has not. */
+/* Statuses, as the program jp ends with them, but for the last four, which it has not. */
 enum {
     JP_DONE = 0,             /* there is an answer */
     JP_QUERY_REFUSED = 1,    /* the report has its kind and its place */
@@ -60,7 +61,9 @@ enum {
     JP_DOCUMENT_REFUSED = 3, /* the report has its kind */
     JP_NO_MEMORY = 4,        /* memory ran out */
     JP_STEPS_USED_UP = 6,    /* the evaluation needs more steps than the limit */
-    JP_NO_STACK = 7          /* the thread's stack has too little left, and nothing was done */
+    JP_NO_STACK = 7,         /* the thread's stack has too little left, and nothing was done */
+    JP_TOO_MANY_NODES = 8,   /* there are more nodes than the limit */
+    JP_TOO_MANY_BYTES = 9    /* the lines of the nodes have more bytes than the limit */
 };
 
 /* What is written of each node, with a newline after it. */
@@ -128,16 +131,30 @@ struct jp_place {
     size_t column; /* its column in that line, in characters from 1 */
 };
 
+/* The most that a call may do and give; of each 0 is no limit. Whichever is reached first on the way through the
+ * nodes, one after another, is told, and nothing is given in part: JP_STEPS_USED_UP before a node is found,
+ * JP_TOO_MANY_NODES when it is found, before its line is made, and JP_TOO_MANY_BYTES behind its line. So no
+ * more than one line stands in memory behind those that the limit is for. */
+struct jp_limit {
+    uint64_t steps; /* of the evaluation */
+    uint64_t nodes; /* that are asked for, if there are so many */
+    uint64_t bytes; /* of the lines of these nodes together, with a newline each */
+};
+
+/* clang-format off */
+#define JP_UNLIMITED {0, 0, 0}
+/* clang-format on */
+
 /* The version of the library. */
 uint32_t jp_version(void);
 
 /* A line for each node that the query selects in the document, in the nodelist's order; no text
  * where it selects none. The query is read first. Where it names one location, as $.a[0] does, it is
- * answered while the document is read, and makes no steps. A document that is refused is read once more,
- * for its place; where there is no memory for that the status is JP_NO_MEMORY. */
+ * answered while the document is read, makes no steps, and keeps to the limit of bytes. A document that is
+ * refused is read once more, for its place; where there is no memory for that the status is JP_NO_MEMORY. */
 uint32_t jp_eval(const uint8_t *query, size_t query_length,
                  const uint8_t *document, size_t document_length,
-                 uint32_t form, uint32_t profile, uint64_t limit,
+                 uint32_t form, uint32_t profile, const struct jp_limit *limit,
                  uint8_t *out, size_t out_length, struct jp_report *report);
 
 /* One of many queries: the bytes of the queries' text from its start on, as many as its size says. */
@@ -158,7 +175,7 @@ struct jp_question {
 size_t jp_eval_many(const uint8_t *queries, size_t queries_length,
                     struct jp_question *questions, size_t questions_length,
                     const uint8_t *document, size_t document_length,
-                    uint32_t form, uint32_t profile, uint64_t limit,
+                    uint32_t form, uint32_t profile, const struct jp_limit *limit,
                     uint8_t *out, size_t out_length);
 
 /* The canonical text of a query, in which each query has one spelling; no newline after it. */
@@ -220,11 +237,6 @@ uint32_t jp_document_new(const uint8_t *document, size_t document_length,
                          struct jp_handle *handle,
                          uint8_t *out, size_t out_length, struct jp_report *report);
 
-/* What jp_eval writes for the query that one handle keeps and the document that the other does. Both
- * keep them. */
-uint32_t jp_select(struct jp_handle *query, struct jp_handle *document, uint32_t form, uint64_t limit,
-                   uint8_t *out, size_t out_length, struct jp_report *report);
-
 /* A text that a handle lends. It may be read, and not written, until the next call with that handle. Where
  * the length is 0 there is nothing at `start`. */
 struct jp_text {
@@ -241,13 +253,13 @@ struct jp_text {
  * document is refused for a number that is not whole, its path is lent. The handle keeps the memory that a
  * call takes, so that the next takes none where it needs no more. */
 uint32_t jp_ask(struct jp_handle *query, const uint8_t *document, size_t document_length,
-                uint32_t form, uint64_t from, uint64_t count, uint64_t limit,
+                uint32_t form, uint64_t from, uint64_t count, const struct jp_limit *limit,
                 struct jp_text *text, struct jp_report *report);
 
 /* The same of the document that another handle keeps. Both keep what they keep; the text is lent by the
  * query's. */
 uint32_t jp_ask_document(struct jp_handle *query, struct jp_handle *document,
-                         uint32_t form, uint64_t from, uint64_t count, uint64_t limit,
+                         uint32_t form, uint64_t from, uint64_t count, const struct jp_limit *limit,
                          struct jp_text *text, struct jp_report *report);
 
 /* A node, in texts that a query's handle lends: its normalized path and the compact text of its value. Where
@@ -257,7 +269,9 @@ struct jp_node {
     struct jp_text value;
 };
 
-/* Asks the query that the handle keeps for its first node in a document, with which the evaluation stops.
+/* This call and those below take a limit of steps alone, or JP_NO_LIMIT.
+ *
+ * Asks the query that the handle keeps for its first node in a document, with which the evaluation stops.
  * `report->length` is that of both texts together. Where a document is refused for a number that is not
  * whole, its path is lent. */
 uint32_t jp_first(struct jp_handle *query, const uint8_t *document, size_t document_length, uint64_t limit,
@@ -273,22 +287,32 @@ struct jp_cursor {
     uint64_t given;       /* how many nodes were given */
     uint64_t asked;       /* how many were asked for, up to the end of the page */
     struct jp_text lines; /* what is left of the page */
+    uint64_t steps;       /* how many steps its evaluations made */
+    uint64_t known;       /* how many the dearest of them made */
+    uint64_t page;        /* how many the page took, or the next one needs more than */
 };
 
 /* clang-format off */
-#define JP_START {0, 0, {0, 0}}
+#define JP_START {0, 0, {0, 0}, 0, 0, 0}
 /* clang-format on */
 
 /* The next of the nodes that the query of one handle selects in the document of the other, in the nodelist's
  * order; none after the last. While a cursor is in use no other call uses its query's handle, and the
  * document's keeps what it keeps.
  *
- * A cursor asks jp_ask_document for pages of 1, 2, 4 nodes and so on, the last of which may have half of all.
- * So the first node costs no more than a count of 1, and all of them at most three times what they cost at
- * once. A call that asks for a page has the whole limit and reports that page's steps; others make none.
- * Where the status is not JP_DONE the cursor stands where it stood, and may be asked again. */
+ * A cursor asks jp_ask_document for pages of nodes, as docs/EMBED.md says (One node after another), which also
+ * bounds the steps of all its calls together. No evaluation makes more steps than the limit. A call reports the
+ * steps of its own evaluations, and most make none. JP_STEPS_USED_UP says that all nodes need more steps than the
+ * limit; the next ones may need fewer. Where the status is not JP_DONE the cursor stands where it stood, and may be
+ * asked again, with a higher limit. */
 uint32_t jp_next(struct jp_cursor *cursor, struct jp_handle *query, struct jp_handle *document, uint64_t limit,
                  struct jp_node *node, struct jp_report *report);
+
+/* The same for all nodes that are left of a page, or else those of the next one: their lines, as jp_ask_document lends
+ * them for JP_BOTH. There are none after the last. Whoever copies them may use the handles for other calls, and ask
+ * with another handle that keeps the query. */
+uint32_t jp_next_page(struct jp_cursor *cursor, struct jp_handle *query, struct jp_handle *document, uint64_t limit,
+                      struct jp_text *lines, struct jp_report *report);
 
 /* A step of a normalized path: a name, or, where `name.start` is null, an index. */
 struct jp_step {

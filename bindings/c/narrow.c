@@ -2,7 +2,8 @@
  * documents and patterns: each call ends with what it gives on a large stack, or with JP_NO_STACK, which has
  * done nothing. Where it does not refuse, some of the stack is left over: it was filled with a pattern before.
  * So a change by which calls need more than bindings/c/stack.c says fails here. With 1 MiB no call is refused,
- * and texts that are long and not deep need no more than short ones. Prints nothing where all is so.
+ * 128 KiB do for as many levels as the pages say, and texts that are long and not deep need no more than short ones.
+ * Prints nothing where all is so.
  */
 #define _GNU_SOURCE
 #include "jp.h"
@@ -13,6 +14,8 @@
 #include <string.h>
 #include <sys/mman.h>
 #include <ucontext.h>
+
+static const struct jp_limit unlimited = JP_UNLIMITED;
 
 #define KIB ((size_t)1 << 10)
 /* The stack of the main thread, which has room. */
@@ -55,13 +58,13 @@ struct asked {
 
 static void eval(struct asked *it) {
     it->status = jp_eval(it->query.at, it->query.length, it->document.at, it->document.length, JP_BOTH, it->profile,
-                         JP_NO_LIMIT, it->out.at, it->out.length, &it->report);
+                         &unlimited, it->out.at, it->out.length, &it->report);
 }
 
 static void eval_many(struct asked *it) {
     struct jp_question questions[] = {{0, 1, {9, 9, 9, 9, 9}}, {0, it->query.length, {9, 9, 9, 9, 9}}};
     jp_eval_many(it->query.at, it->query.length, questions, 2, it->document.at, it->document.length, JP_BOTH,
-                 it->profile, JP_NO_LIMIT, it->out.at, it->out.length);
+                 it->profile, &unlimited, it->out.at, it->out.length);
     it->report = questions[1].report;
     it->status = it->report.status;
 }
@@ -94,11 +97,6 @@ static void document_new(struct asked *it) {
                                  it->out.length, &it->report);
 }
 
-static void select_kept(struct asked *it) {
-    it->status = jp_select(&it->kept_query, &it->kept_document, JP_BOTH, JP_NO_LIMIT, it->out.at, it->out.length,
-                           &it->report);
-}
-
 /* Copies a text that is lent to where other calls write theirs. */
 static void take(struct asked *it, const struct jp_text *text) {
     if (text->length > 0 && text->length <= it->out.length) {
@@ -108,14 +106,14 @@ static void take(struct asked *it, const struct jp_text *text) {
 
 static void ask_kept(struct asked *it) {
     struct jp_text text;
-    it->status = jp_ask(&it->kept_query, it->document.at, it->document.length, JP_BOTH, 0, JP_ALL, JP_NO_LIMIT, &text,
+    it->status = jp_ask(&it->kept_query, it->document.at, it->document.length, JP_BOTH, 0, JP_ALL, &unlimited, &text,
                         &it->report);
     take(it, &text);
 }
 
 static void ask_document(struct asked *it) {
     struct jp_text text;
-    it->status = jp_ask_document(&it->kept_query, &it->kept_document, JP_BOTH, 0, JP_ALL, JP_NO_LIMIT, &text,
+    it->status = jp_ask_document(&it->kept_query, &it->kept_document, JP_BOTH, 0, JP_ALL, &unlimited, &text,
                                  &it->report);
     take(it, &text);
 }
@@ -142,13 +140,13 @@ static void exists(struct asked *it) {
 }
 
 /* The three after one another, so that one thread has both handles. */
-static void keep_and_select(struct asked *it) {
+static void keep_and_ask(struct asked *it) {
     query_new(it);
     if (it->status == JP_DONE) {
         document_new(it);
     }
     if (it->status == JP_DONE) {
-        select_kept(it);
+        ask_document(it);
     }
 }
 
@@ -163,30 +161,30 @@ static void kind_name(struct asked *it) {
 }
 
 /* The calls, and the stack of the thread that fills their handles. One with room does not count how deep a
- * document is. */
+ * document is. Last, how many levels a call does for on a thread with 128 KiB: of lists, and of filters in a query. An
+ * explanation counts brackets that may be mended. 0 where the levels do not decide, or a document was not counted. */
 static const struct {
     const char *name;
     void (*call)(struct asked *);
-    size_t filled_on;
+    size_t filled_on, levels;
 } calls[] = {
-    {"jp_eval", eval, HERE},
-    {"jp_eval_many", eval_many, HERE},
-    {"jp_canon", canon, HERE},
-    {"jp_check", check, HERE},
-    {"jp_explain", explain, HERE},
-    {"jp_explain_document", explain_document, HERE},
-    {"jp_query_new", query_new, HERE},
-    {"jp_document_new", document_new, HERE},
-    {"jp_select", select_kept, HERE},
-    {"jp_select of what was counted", select_kept, 672 * KIB},
-    {"jp_ask", ask_kept, HERE},
-    {"jp_ask_document", ask_document, HERE},
-    {"jp_first", first, HERE},
-    {"jp_exists", exists, HERE},
-    {"jp_next", next_nodes, HERE},
-    {"the calls with handles", keep_and_select, HERE},
-    {"jp_clear", clear, HERE},
-    {"jp_kind_name", kind_name, HERE},
+    {"jp_eval", eval, HERE, 18},
+    {"jp_eval_many", eval_many, HERE, 18},
+    {"jp_canon", canon, HERE, 24},
+    {"jp_check", check, HERE, 24},
+    {"jp_explain", explain, HERE, 16},
+    {"jp_explain_document", explain_document, HERE, 18},
+    {"jp_query_new", query_new, HERE, 24},
+    {"jp_document_new", document_new, HERE, 18},
+    {"jp_ask", ask_kept, HERE, 18},
+    {"jp_ask_document", ask_document, HERE, 0},
+    {"jp_ask_document of what was counted", ask_document, 672 * KIB, 0},
+    {"jp_first", first, HERE, 18},
+    {"jp_exists", exists, HERE, 18},
+    {"jp_next", next_nodes, HERE, 0},
+    {"the calls with handles", keep_and_ask, HERE, 18},
+    {"jp_clear", clear, HERE, 24},
+    {"jp_kind_name", kind_name, HERE, 0},
 };
 
 #define CALLS (sizeof calls / sizeof calls[0])
@@ -290,7 +288,7 @@ static size_t call_for(const struct row *row, size_t call, size_t size, struct a
     memset(asked->out.at, '#', asked->out.length);
     asked->call = calls[call].call;
     const size_t untouched = call_within(size, asked);
-    if (asked->status == JP_NO_STACK && asked->call != keep_and_select) {
+    if (asked->status == JP_NO_STACK && asked->call != keep_and_ask) {
         expect(query.at == asked->kept_query.at && document.at == asked->kept_document.at,
                "handles as they were", row->name, calls[call].name, size);
     }
@@ -311,7 +309,7 @@ static int is_answered(const struct row *row, size_t call, size_t size, const st
     if (is_answered) {
         expect(memcmp(asked.out.at, expected->out.at, ROOM) == 0, "the text", row->name, calls[call].name, size);
         expect(untouched + 1 > SPARED, "stack left over", row->name, calls[call].name, size);
-    } else if (calls[call].call != keep_and_select) {
+    } else if (calls[call].call != keep_and_ask) {
         expect(asked.out.at[0] == '#', "a buffer left alone", row->name, calls[call].name, size);
     }
     forget(&asked);
@@ -396,6 +394,22 @@ static const struct row wide[] = {
     {"many strings of brackets", ONE("$.a"), NESTED("[", "\"\\\"[[(\",", "1", "", "]", 5000), 0},
 };
 
+/* What docs/EMBED.md says of a thread with 128 KiB, as one of musl has: so many levels, and not two more. */
+static void try_small_threads(void) {
+    for (size_t call = 0; call < CALLS; call += 1) {
+        for (size_t more = 0; calls[call].levels > 0 && more <= 2; more += 2) {
+            const size_t levels = calls[call].levels + more;
+            const struct row row = {"a small thread", NESTED("$", "[?@", "", "]", "", levels),
+                                    NESTED("", "[", "", "]", "", levels), 0};
+            struct asked expected;
+            call_for(&row, call, HERE, &expected);
+            expect(is_answered(&row, call, 128 * KIB, &expected) == (more == 0), "as many levels as are told", row.name,
+                   calls[call].name, levels);
+            forget(&expected);
+        }
+    }
+}
+
 /* On a stack that is not the thread's own no call is refused. AddressSanitizer doubts such stacks. */
 #ifndef __SANITIZE_ADDRESS__
 static ucontext_t returning;
@@ -443,6 +457,7 @@ int main(void) {
             expect(sizes[call] <= of_short[call] + 16 * KIB || calls[call].call == explain, "as little stack", wide[at].name, calls[call].name, sizes[call]);
         }
     }
+    try_small_threads();
 #ifndef __SANITIZE_ADDRESS__
     try_elsewhere();
 #endif

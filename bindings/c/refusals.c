@@ -7,6 +7,8 @@
 #include <stdio.h>
 #include <string.h>
 
+static const struct jp_limit unlimited = JP_UNLIMITED;
+
 void *__real_malloc(size_t size);
 void *__real_realloc(void *old, size_t size);
 void *__wrap_malloc(size_t size);
@@ -78,10 +80,10 @@ static void make_call(int call, const char *document, struct told *told) {
     uint8_t out[128];
     switch (call) {
     case 0:
-        jp_eval(queries, 3, bytes, length, JP_VALUES, JP_STANDARD, JP_NO_LIMIT, out, sizeof out, report);
+        jp_eval(queries, 3, bytes, length, JP_VALUES, JP_STANDARD, &unlimited, out, sizeof out, report);
         break;
     case 1:
-        jp_eval_many(queries, 7, questions, 3, bytes, length, JP_VALUES, JP_STANDARD, JP_NO_LIMIT, out, sizeof out);
+        jp_eval_many(queries, 7, questions, 3, bytes, length, JP_VALUES, JP_STANDARD, &unlimited, out, sizeof out);
         for (int at = 0; at < 3; at += 1) {
             report[at] = questions[at].report;
         }

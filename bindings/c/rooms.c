@@ -12,6 +12,8 @@
 #include <string.h>
 #include <sys/mman.h>
 
+static const struct jp_limit unlimited = JP_UNLIMITED;
+
 static int failures = 0;
 
 static void expect(int holds, const char *what, size_t room) {
@@ -39,7 +41,7 @@ static const struct row rows[] = {
     ROW("$.a[*]", "{\"a\":[1,[2,{}]]}", JP_BOTH, 0, 0, 0, "$['a'][0]\t1\n$['a'][1]\t[2,{}]\n", 11),
     ROW("$.a[*]", "{\"a\":[1,[2,{}]]}", JP_PATHS, 0, 0, 0, "$['a'][0]\n$['a'][1]\n", 11),
     ROW("$.a[*]", "{\"a\":[1,[2,{}]]}", JP_VALUES, 0, 0, 0, "1\n[2,{}]\n", 11),
-    ROW("$.b[*]", "{\"a\":[1,2]}", JP_VALUES, 0, 0, 0, "", 5),
+    ROW("$[0:0]", "{\"a\":[1,2]}", JP_VALUES, 0, 0, 0, "", 5),
     ROW("$.a[01]", "[1,]", JP_VALUES, 1, JP_SYNTAX, 5, "", 0),
     ROW("", "", JP_VALUES, 1, JP_SYNTAX, 0, "", 0),
     ROW("$.\xff", "[]", JP_VALUES, 1, JP_SYNTAX, 2, "", 0),
@@ -58,7 +60,7 @@ static void try_room(const struct row *row, size_t room) {
     memset(out, '#', room + 1);
     uint32_t status = jp_eval((const uint8_t *)row->query, row->query_length,
                               (const uint8_t *)row->document, row->document_length, row->form,
-                              JP_STANDARD, JP_NO_LIMIT, out, room, &report);
+                              JP_STANDARD, &unlimited, out, room, &report);
     expect(status == row->expected.status, "the status", room);
     expect(memcmp(&report, &row->expected, sizeof report) == 0, "the report", room);
     size_t written = room >= row->expected.length ? row->expected.length : 0;
@@ -74,6 +76,7 @@ static void try_many(size_t room) {
     static const char queries[] = "$.a[*]$.a[01]$.b$.a";
     static const char document[] = "{\"a\":[1,[2,{}]]}";
     static const char text[] = "$['a'][0]\n$['a'][1]\n$['a']\n";
+    static const struct jp_limit eleven = {11, 0, 0};
     static const struct jp_report expected[] = {
         {0, 0, 0, 20, 11},
         {JP_QUERY_REFUSED, JP_SYNTAX, 5, 0, 0},
@@ -92,7 +95,7 @@ static void try_many(size_t room) {
     memset(out, '#', room + 1);
     size_t size = jp_eval_many((const uint8_t *)queries, sizeof queries - 1, questions, 5,
                                (const uint8_t *)document, sizeof document - 1, JP_PATHS,
-                               JP_STANDARD, 11, out, room);
+                               JP_STANDARD, &eleven, out, room);
     expect(size == sizeof text - 1, "the size of all texts", room);
     for (size_t at = 0; at < 5; at += 1) {
         expect(memcmp(&questions[at].report, &expected[at], sizeof expected[at]) == 0, "a report", room);
@@ -111,7 +114,7 @@ static void try_many_refused(void) {
     uint8_t out[16] = {0};
     const uint8_t document[] = "[2.5]";
     expect(jp_eval_many((const uint8_t *)"$", 1, questions, 2, document, 5, JP_VALUES, JP_STANDARD,
-                        JP_NO_LIMIT, out, sizeof out)
+                        &unlimited, out, sizeof out)
                    == 4
                && memcmp(out, "$[0]", 5) == 0,
            "the path of a number", 16);
@@ -120,7 +123,7 @@ static void try_many_refused(void) {
            "the document's report", 16);
     expect(questions[1].report.status == JP_QUERY_REFUSED, "the query's report", 16);
     expect(jp_eval_many((const uint8_t *)"", 0, questions, 0, document, 5, JP_VALUES, JP_STANDARD,
-                        JP_NO_LIMIT, out, sizeof out)
+                        &unlimited, out, sizeof out)
                == 0,
            "no queries", 16);
 }
@@ -149,13 +152,13 @@ static void try_too_large(void) {
     }
     for (size_t at = 0; at < 2; at += 1) {
         jp_eval(query + questions[at].start, questions[at].size, document, size, JP_VALUES, JP_STANDARD,
-                JP_NO_LIMIT, out, 0, &report);
+                &unlimited, out, 0, &report);
         expect(is_document_refused(&report, JP_DOCUMENT_TOO_LARGE), "too large", at);
     }
-    jp_eval(query + 1, 2, document, size, JP_VALUES, JP_STANDARD, JP_NO_LIMIT, out, 0, &report);
+    jp_eval(query + 1, 2, document, size, JP_VALUES, JP_STANDARD, &unlimited, out, 0, &report);
     expect(report.status == JP_QUERY_REFUSED, "the query first", size);
     expect(jp_eval_many(query, sizeof query - 1, questions, 3, document, size, JP_VALUES, JP_STANDARD,
-                        JP_NO_LIMIT, out, 0)
+                        &unlimited, out, 0)
                == 0,
            "no text", size);
     expect(is_document_refused(&questions[0].report, JP_DOCUMENT_TOO_LARGE)
@@ -321,23 +324,26 @@ static void try_handles_as(const struct row *row) {
         status = jp_document_new((const uint8_t *)row->document, row->document_length, &document, out,
                                  sizeof out, &report);
     }
+    struct jp_text text = {out, report.length};
     for (int again = 0; status == JP_DONE && again < 2; again += 1) {
-        uint32_t answered = jp_select(&query, &document, row->form, JP_NO_LIMIT, out, sizeof out, &report);
+        uint32_t answered =
+            jp_ask_document(&query, &document, row->form, 0, JP_ALL, &unlimited, &text, &report);
         status = again == 1 ? answered : status;
     }
     expect(status == row->expected.status, "the status by handles", sizeof out);
     expect(memcmp(&report, &row->expected, sizeof report) == 0, "the report by handles", sizeof out);
-    expect(memcmp(out, row->text, row->expected.length) == 0, "the text by handles", sizeof out);
+    expect(text.length == row->expected.length, "the length by handles", sizeof out);
+    expect(text.length == 0 || memcmp(text.start, row->text, text.length) == 0, "the text by handles", sizeof out);
     jp_clear(&query);
     jp_clear(&document);
 }
 
-/* The status of jp_select, and the first byte that it writes, or '#' where it writes none. */
-static uint32_t select_from(struct jp_handle *query, struct jp_handle *document, uint8_t *first) {
+/* The status of jp_ask_document, and the first byte that it lends, or '#' where it lends none. */
+static uint32_t first_of_kept(struct jp_handle *query, struct jp_handle *document, uint8_t *first) {
     struct jp_report report;
-    uint8_t out[16] = {'#'};
-    uint32_t status = jp_select(query, document, JP_VALUES, JP_NO_LIMIT, out, sizeof out, &report);
-    *first = out[0];
+    struct jp_text text;
+    uint32_t status = jp_ask_document(query, document, JP_VALUES, 0, JP_ALL, &unlimited, &text, &report);
+    *first = text.length > 0 ? text.start[0] : '#';
     return status;
 }
 
@@ -345,38 +351,40 @@ static uint32_t select_from(struct jp_handle *query, struct jp_handle *document,
 static void try_no_handles(void) {
     struct jp_handle query = JP_EMPTY, document = JP_EMPTY;
     uint8_t first;
-    expect(select_from(&query, &document, &first) == JP_USAGE, "empty handles", 16);
+    expect(first_of_kept(&query, &document, &first) == JP_USAGE, "empty handles", 16);
     jp_clear(&query);
     expect(keep_query("$.a", &query) == JP_DONE, "a query kept", 16);
-    expect(select_from(&query, &document, &first) == JP_USAGE, "no document", 16);
+    expect(first_of_kept(&query, &document, &first) == JP_USAGE, "no document", 16);
     expect(keep_document("{\"a\":1}", &document) == JP_DONE, "a document kept", 16);
-    expect(select_from(&document, &query, &first) == JP_USAGE, "changed over", 16);
-    expect(select_from(&query, &document, &first) == JP_DONE && first == '1', "both kept", 16);
+    expect(first_of_kept(&document, &query, &first) == JP_USAGE, "changed over", 16);
+    expect(first_of_kept(&query, &document, &first) == JP_DONE && first == '1', "both kept", 16);
     expect(keep_document("{\"a\":2}", &document) == JP_DONE, "another in its place", 16);
-    expect(select_from(&query, &document, &first) == JP_DONE && first == '2', "the other", 16);
+    expect(first_of_kept(&query, &document, &first) == JP_DONE && first == '2', "the other", 16);
     expect(keep_document("[2.5]", &document) == JP_DOCUMENT_REFUSED, "no document", 16);
-    expect(select_from(&query, &document, &first) == JP_USAGE, "refused", 16);
+    expect(first_of_kept(&query, &document, &first) == JP_USAGE, "refused", 16);
     expect(keep_document("{}", &query) == JP_DONE, "a document in place of a query", 16);
     jp_clear(&query);
     jp_clear(&query);
     jp_clear(&document);
-    expect(select_from(&query, &document, &first) == JP_USAGE && first == '#', "cleared", 16);
+    expect(first_of_kept(&query, &document, &first) == JP_USAGE && first == '#', "cleared", 16);
 }
 
-/* The report of one query over one document in at most so many steps: by jp_eval, by jp_eval_many after
- * another question, and by handles. */
-static void report_within(const char *query, const char *document, uint64_t limit, struct jp_report reports[3]) {
+/* The report of one query over one document within a limit: by jp_eval, by jp_eval_many after another question,
+ * and by handles. */
+static void report_within(const char *query, const char *document, const struct jp_limit *limit,
+                          struct jp_report reports[3]) {
     const uint8_t *text = (const uint8_t *)query, *bytes = (const uint8_t *)document;
     size_t length = strlen(query), bytes_length = strlen(document);
     struct jp_handle kept_query = JP_EMPTY, kept_document = JP_EMPTY;
     struct jp_question questions[2] = {{0, length, {9, 9, 9, 9, 9}}, {0, length, {9, 9, 9, 9, 9}}};
+    struct jp_text lent;
     uint8_t out[64];
     jp_eval(text, length, bytes, bytes_length, JP_PATHS, JP_STANDARD, limit, out, sizeof out, &reports[0]);
     jp_eval_many(text, length, questions, 2, bytes, bytes_length, JP_PATHS, JP_STANDARD, limit, out, sizeof out);
     reports[1] = questions[1].report;
     keep_query(query, &kept_query);
     keep_document(document, &kept_document);
-    jp_select(&kept_query, &kept_document, JP_PATHS, limit, out, sizeof out, &reports[2]);
+    jp_ask_document(&kept_query, &kept_document, JP_PATHS, 0, JP_ALL, limit, &lent, &reports[2]);
     jp_clear(&kept_query);
     jp_clear(&kept_document);
 }
@@ -394,9 +402,10 @@ static void try_limits(void) {
     };
     for (size_t at = 0; at < sizeof needed / sizeof needed[0]; at += 1) {
         uint64_t steps = needed[at].steps;
+        const struct jp_limit suffices = {steps, 0, 0}, does_not = {steps - 1, 0, 0};
         struct jp_report enough[3], fewer[3];
-        report_within(needed[at].query, needed[at].document, steps, enough);
-        report_within(needed[at].query, needed[at].document, steps - 1, fewer);
+        report_within(needed[at].query, needed[at].document, &suffices, enough);
+        report_within(needed[at].query, needed[at].document, &does_not, fewer);
         for (size_t call = 0; call < 3; call += 1) {
             expect(enough[call].status == JP_DONE && enough[call].steps == steps, "a limit that suffices", at);
             expect(fewer[call].status == JP_STEPS_USED_UP && fewer[call].kind == 0 && fewer[call].place == 0
@@ -404,10 +413,82 @@ static void try_limits(void) {
                    "a limit that is one less", at);
         }
     }
+    const struct jp_limit one_step = {1, 0, 0};
     struct jp_report named[3];
-    report_within("$[1]", "[1,2]", 1, named);
+    report_within("$[1]", "[1,2]", &one_step, named);
     expect(named[0].status == JP_DONE && named[0].steps == 0, "a location that is named", 1);
     expect(named[1].status == JP_STEPS_USED_UP && named[1].steps == 1, "the same of a document that was read", 1);
+}
+
+/* As many nodes and bytes of their paths as there are come out, and with a limit of one less nothing does, by each
+ * call; of two limits the one is told that is reached first. */
+static void try_outputs(void) {
+    static const struct {
+        const char *query, *document;
+        struct jp_limit limit;
+        uint32_t status;
+    } outputs[] = {
+        {"$[*]", "[1,2]", {0, 2, 10}, JP_DONE},
+        {"$[*]", "[1,2]", {0, 1, 0}, JP_TOO_MANY_NODES},
+        {"$[*]", "[1,2]", {0, 1, 5}, JP_TOO_MANY_NODES},
+        {"$[*]", "[1,2]", {0, 1, 4}, JP_TOO_MANY_BYTES},
+        {"$[*]", "[1,2]", {0, 0, 9}, JP_TOO_MANY_BYTES},
+        {"$[*]", "[1,2]", {0, 2, 9}, JP_TOO_MANY_BYTES},
+        {"$[*]", "[1,2]", {2, 1, 1}, JP_STEPS_USED_UP},
+        {"$[1]", "[1,2]", {0, 1, 5}, JP_DONE},
+        {"$[1]", "[1,2]", {0, 0, 4}, JP_TOO_MANY_BYTES},
+        {"$[5]", "[1,2]", {0, 1, 1}, JP_DONE},
+    };
+    for (size_t at = 0; at < sizeof outputs / sizeof outputs[0]; at += 1) {
+        struct jp_report reports[3];
+        report_within(outputs[at].query, outputs[at].document, &outputs[at].limit, reports);
+        for (size_t call = 0; call < 3; call += 1) {
+            expect(reports[call].status == outputs[at].status && reports[call].kind == 0 && reports[call].place == 0
+                       && (reports[call].status == JP_DONE || reports[call].length == 0),
+                   "so much and no more", at);
+        }
+    }
+}
+
+/* The number as the only item of a list, which is selected by its place, or where `test` stands between it and what
+ * it is compared with. Gives the status, and the report; the text is written to `out`. */
+static uint32_t select_number(const char *number, const char *test, uint8_t out[32], struct jp_report *report) {
+    char query[64], document[64];
+    int length = snprintf(document, sizeof document, "[%s]", number);
+    int query_length = test == NULL ? snprintf(query, sizeof query, "$[0]")
+                                    : snprintf(query, sizeof query, "$[?@%s%s]", test, number);
+    memset(out, 0, 32);
+    return jp_eval((const uint8_t *)query, (size_t)query_length, (const uint8_t *)document, (size_t)length,
+                   JP_VALUES, JP_STANDARD, &unlimited, out, 31, report);
+}
+
+/* Whole numbers beside 2^53, and to the ends of 64 bits, are those of the text, and what is beyond is refused. */
+static void try_numbers(void) {
+    static const char *const whole[] = {
+        "9007199254740991", "-9007199254740991", "9007199254740992", "-9007199254740992",
+        "9007199254740993", "-9007199254740993", "1152921504606846976", "-1152921504606846976",
+        "9223372036854775807", "-9223372036854775807", "9223372036854775808", "-9223372036854775808",
+        "18446744073709551615"};
+    static const char *const beyond[] = {"18446744073709551616", "-9223372036854775809",
+                                         "1000000000000000000000000000000"};
+    struct jp_report report;
+    uint8_t out[32];
+    for (size_t at = 0; at < sizeof whole / sizeof whole[0]; at += 1) {
+        size_t length = strlen(whole[at]);
+        for (int is_compared = 0; is_compared < 2; is_compared += 1) {
+            uint32_t status = select_number(whole[at], is_compared ? "==" : NULL, out, &report);
+            expect(status == JP_DONE && report.length == length + 1 && memcmp(out, whole[at], length) == 0
+                       && out[length] == '\n',
+                   whole[at], 31);
+        }
+        expect(select_number(whole[at], "!=", out, &report) == JP_DONE && report.length == 0, whole[at], 31);
+    }
+    for (size_t at = 0; at < sizeof beyond / sizeof beyond[0]; at += 1) {
+        expect(select_number(beyond[at], NULL, out, &report) == JP_DOCUMENT_REFUSED
+                   && report.kind == JP_NUMBER_NOT_WHOLE && report.place == 1
+                   && strcmp((const char *)out, "$[0]") == 0,
+               beyond[at], 31);
+    }
 }
 
 /* How many bytes the program holds, those included that its allocator keeps to hand out again. Under
@@ -421,11 +502,11 @@ static size_t held(void) {
 static void use_handles(long times) {
     struct jp_handle query = JP_EMPTY, document = JP_EMPTY;
     struct jp_report report;
-    uint8_t out[16];
+    struct jp_text text;
     for (long time = 0; time < times; time += 1) {
         keep_query("$.a[1]", &query);
         keep_document(time % 2 == 0 ? "{\"a\":[1,[2]]}" : "[2.5]", &document);
-        jp_select(&query, &document, JP_VALUES, JP_NO_LIMIT, out, sizeof out, &report);
+        jp_ask_document(&query, &document, JP_VALUES, 0, JP_ALL, &unlimited, &text, &report);
         if (time % 3 == 0) {
             jp_clear(&query);
             jp_clear(&document);
@@ -460,6 +541,8 @@ int main(void) {
     }
     try_no_handles();
     try_limits();
+    try_outputs();
+    try_numbers();
     try_many_handles();
     const size_t rooms[] = {0, 26, 27, 32};
     for (size_t room = 0; room < 4; room += 1) {

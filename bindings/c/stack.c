@@ -203,7 +203,7 @@ uint32_t jp_version(void) {
 PROVED(eval);
 uint32_t jp_eval(const uint8_t *query, size_t query_length,
                  const uint8_t *document, size_t document_length,
-                 uint32_t form, uint32_t profile, uint64_t limit,
+                 uint32_t form, uint32_t profile, const struct jp_limit *limit,
                  uint8_t *out, size_t out_length, struct jp_report *report) {
     if (IS_SHORT(DOCUMENT, deeper(depth_of(query, query_length), depth_of_document(document, document_length)))) {
         return no_stack(report);
@@ -216,7 +216,7 @@ PROVED(eval_many);
 size_t jp_eval_many(const uint8_t *queries, size_t queries_length,
                     struct jp_question *questions, size_t questions_length,
                     const uint8_t *document, size_t document_length,
-                    uint32_t form, uint32_t profile, uint64_t limit,
+                    uint32_t form, uint32_t profile, const struct jp_limit *limit,
                     uint8_t *out, size_t out_length) {
     if (IS_SHORT(DOCUMENT, deeper(depth_of_all(queries, queries_length, questions, questions_length),
                                   depth_of_document(document, document_length)))) {
@@ -306,22 +306,9 @@ uint32_t jp_document_new(const uint8_t *document, size_t document_length,
     return status;
 }
 
-PROVED(select);
-uint32_t jp_select(struct jp_handle *query, struct jp_handle *document, uint32_t form, uint64_t limit,
-                   uint8_t *out, size_t out_length, struct jp_report *report) {
-    const struct depth of_query = depth_in(query), of_document = depth_in(document);
-    if (IS_SHORT(QUERY, deeper(of_query, of_document))) {
-        return no_stack(report);
-    }
-    const uint32_t status = proved_jp_select(query, document, form, limit, out, out_length, report);
-    note_depth(query, of_query);
-    note_depth(document, of_document);
-    return status;
-}
-
 PROVED(ask);
 uint32_t jp_ask(struct jp_handle *query, const uint8_t *document, size_t document_length,
-                uint32_t form, uint64_t from, uint64_t count, uint64_t limit,
+                uint32_t form, uint64_t from, uint64_t count, const struct jp_limit *limit,
                 struct jp_text *text, struct jp_report *report) {
     const struct depth of_query = depth_in(query);
     if (IS_SHORT(DOCUMENT, deeper(of_query, depth_of_document(document, document_length)))) {
@@ -335,7 +322,7 @@ uint32_t jp_ask(struct jp_handle *query, const uint8_t *document, size_t documen
 
 PROVED(ask_document);
 uint32_t jp_ask_document(struct jp_handle *query, struct jp_handle *document,
-                         uint32_t form, uint64_t from, uint64_t count, uint64_t limit,
+                         uint32_t form, uint64_t from, uint64_t count, const struct jp_limit *limit,
                          struct jp_text *text, struct jp_report *report) {
     const struct depth of_query = depth_in(query), of_document = depth_in(document);
     if (IS_SHORT(QUERY, deeper(of_query, of_document))) {

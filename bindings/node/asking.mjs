@@ -1,9 +1,12 @@
 /** What the engines are asked, in lines of text, or the errors that outcomes stand for. */
 import { readFileSync } from "node:fs";
-import { ALL, Engine, KeptDocument } from "./engine.mjs";
-import { DocumentError, QueryError, StepsUsedUp } from "./errors.mjs";
+import { ALL, Engine, KeptDocument, UNLIMITED } from "./engine.mjs";
+import { BeyondLimit, DocumentError, QueryError, StepsUsedUp, TooManyBytes, TooManyNodes } from "./errors.mjs";
 import { NO_MEMORY_TEXT } from "./instance.mjs";
-import { DOCUMENT_REFUSED, DONE, NO_MEMORY, QUERY_REFUSED, STEPS_USED_UP } from "./numbers.mjs";
+import {
+  DOCUMENT_REFUSED, DONE, NO_MEMORY, QUERY_REFUSED, STEPS_USED_UP, TOO_MANY_BYTES, TOO_MANY_NODES,
+} from "./numbers.mjs";
+import { Cursor } from "./pages.mjs";
 import { bytesOf, textOf } from "./texts.mjs";
 
 const compiled = start();
@@ -41,28 +44,40 @@ export function keptBy(bytes) {
 }
 
 /** The lines of what an engine is asked of bytes, or of a document that it keeps. */
-export function linesBy(asks, { asked, text, limit }, document, form, span) {
-  // Each line ends with a newline, which no path and no value has inside.
-  return told(asks.ask(asked, document, form, span, limit), text, asked.profile, document).split("\n").slice(0, -1);
+export function linesBy(asks, { asked, text, most }, document, form, span) {
+  return linesOf(asks.ask(asked, document, form, span, most), { asked, text, most }, document);
 }
 
-/**
- * The lines of a question, asked for in pages of 1, 2, 4 and so on. Each page is one more than all before it, which
- * it passes over, so that all of them cost three walks at most. What `isOwn` is forgotten at the end.
- */
+/** The lines of a question, looked for page by page, by its limit of steps. What `isOwn` is forgotten at the end. */
 export function* eachLineBy({ asks, kept }, isOwn, question, form) {
   try {
-    let lines;
-    for (let passed = 0n, count; lines === undefined || BigInt(lines.length) === count; passed += count) {
-      count = passed + 1n;
-      lines = linesBy(asks, question, kept, form, [passed, count]);
-      yield* lines;
+    const cursor = new Cursor(question.most.steps);
+    while (!cursor.isLast) {
+      yield* nextPage(cursor, asks, kept, question, form);
     }
   } finally {
     if (isOwn) {
       asks.forget(kept);
     }
   }
+}
+
+function nextPage(cursor, asks, kept, question, form) {
+  for (let run = cursor.nextRun(); run !== null; run = cursor.nextRun()) {
+    const most = { ...UNLIMITED, steps: run.limit };
+    const outcome = asks.ask(question.asked, kept, form, [cursor.given, run.count], most);
+    const lines = outcome.status === STEPS_USED_UP ? [] : linesOf(outcome, question);
+    cursor.note(run, outcome, lines.length);
+    if (outcome.status === DONE) {
+      return lines;
+    }
+  }
+  throw new StepsUsedUp(question.most.steps, question.text);
+}
+
+function linesOf(outcome, { asked, text, most }, document) {
+  // Each line ends with a newline, which no path and no value has inside.
+  return told(outcome, text, asked.profile, document, most).split("\n").slice(0, -1);
 }
 
 /** The lines of each question, or its error, where `given` tells who keeps the document. */
@@ -75,7 +90,7 @@ export function answersOf(questions, form, given) {
       const { asks, kept } = given();
       return linesBy(asks, question, kept, form, ALL);
     } catch (fault) {
-      if (fault instanceof QueryError || fault instanceof StepsUsedUp) return fault;
+      if (fault instanceof QueryError || fault instanceof BeyondLimit) return fault;
       throw fault;
     }
   });
@@ -91,8 +106,11 @@ export function answersOfBytes(questions, form, bytes) {
   }
 }
 
-/** The text of an outcome, or the error that it stands for: of a query, and of a document if one was read. */
-export function told({ status, kind, place, steps, text: written }, query, profile, document) {
+/**
+ * The text of an outcome, or the error that it stands for: of a query, of a document if one was read, and of limits if
+ * there were some.
+ */
+export function told({ status, kind, place, steps, text: written }, query, profile, document, most = UNLIMITED) {
   // Further calls write where this one did.
   const text = textOf(written);
   switch (status) {
@@ -106,6 +124,10 @@ export function told({ status, kind, place, steps, text: written }, query, profi
       throw new RangeError(NO_MEMORY_TEXT);
     case STEPS_USED_UP:
       throw new StepsUsedUp(steps, query);
+    case TOO_MANY_NODES:
+      throw new TooManyNodes(most.nodes, query);
+    case TOO_MANY_BYTES:
+      throw new TooManyBytes(most.bytes, query);
     default:
       throw new Error(`the engine gives the status ${status}`);
   }

@@ -10,6 +10,9 @@ import { textOf } from "./texts.mjs";
 /** Which nodes are asked for: how many are passed over, and how many of the others are given, where 0 is all. */
 export const ALL = [0n, 0n];
 
+/** As many steps, nodes and bytes as there may be. */
+export const UNLIMITED = { steps: NO_LIMIT, nodes: NO_LIMIT, bytes: NO_LIMIT };
+
 // The sentences of the reasons why documents were refused.
 const sentencesOf = new Map();
 
@@ -80,18 +83,18 @@ export class Engine {
   }
 
   /**
-   * The lines of the nodes asked for that the query selects in the document, a `KeptDocument` or bytes, made in so
-   * many steps at most, all BigInts. The query is a `KeptQuery`, or has the same members and is kept until another
-   * such is asked.
+   * The lines of the nodes asked for that the query selects in the document, a `KeptDocument` or bytes, of at most so
+   * many `steps`, `nodes` and `bytes`, all BigInts. The query is a `KeptQuery`, or has the same members and is kept
+   * until another such is asked.
    */
-  ask(query, document, form, span = ALL, limit = NO_LIMIT) {
+  ask(query, document, form, span = ALL, most = UNLIMITED) {
     return this.#run((instance) => {
       const { jp_ask, jp_ask_document } = instance.exports;
       const asked = this.#handleOf(instance, query);
       if (asked.handle === null) {
         return asked.outcome;
       }
-      const words = [form, ...span, limit];
+      const words = [form, ...span, instance.limitAddress(most)];
       if (!(document instanceof KeptDocument)) {
         return instance.lend([document], (bytes, told) => jp_ask(asked.handle, ...bytes, ...words, ...told));
       }

@@ -33,11 +33,30 @@ export class DocumentError extends Error {
   }
 }
 
-export class StepsUsedUp extends Error {
-  constructor(limit, query) {
-    super(`steps used up: the query needs more than ${limit}`);
-    this.name = "StepsUsedUp";
+/** A query that goes beyond a limit. */
+export class BeyondLimit extends Error {
+  constructor(name, message, limit, query) {
+    super(message);
+    this.name = name;
     this.limit = limit;
     this.query = query;
+  }
+}
+
+export class StepsUsedUp extends BeyondLimit {
+  constructor(limit, query) {
+    super("StepsUsedUp", `steps used up: the query needs more than ${limit}`, limit, query);
+  }
+}
+
+export class TooManyNodes extends BeyondLimit {
+  constructor(limit, query) {
+    super("TooManyNodes", `too many nodes: the query selects more than ${limit}`, limit, query);
+  }
+}
+
+export class TooManyBytes extends BeyondLimit {
+  constructor(limit, query) {
+    super("TooManyBytes", `too many bytes: the answer has more than ${limit}`, limit, query);
   }
 }

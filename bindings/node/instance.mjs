@@ -10,6 +10,7 @@ export const NO_MEMORY_TEXT = "jp ran out of memory";
 
 const REPORT_LENGTH = 32;
 const PLACE_LENGTH = 24;
+const LIMIT_LENGTH = 24;
 const TEXT_LENGTH = 16;
 const HANDLE_LENGTH = 16;
 const FIRST_ROOM = 1 << 12;
@@ -24,6 +25,7 @@ const NOTHING = new Uint8Array();
 export class Instance {
   #report;
   #place;
+  #limit;
   #lent;
   #room;
   #roomLength = FIRST_ROOM;
@@ -33,6 +35,7 @@ export class Instance {
     this.exports = new WebAssembly.Instance(module).exports;
     this.#report = this.#allocate(REPORT_LENGTH);
     this.#place = this.#allocate(PLACE_LENGTH);
+    this.#limit = this.#allocate(LIMIT_LENGTH);
     this.#lent = this.#allocate(TEXT_LENGTH);
     this.#room = this.#allocate(FIRST_ROOM);
   }
@@ -87,6 +90,15 @@ export class Instance {
   placeTold() {
     const [offset, line, column] = [0, 8, 16].map((at) => this.#number(this.#place, at));
     return { offset, line, column };
+  }
+
+  /** The address of a limit of so many steps, nodes and bytes, BigInts of which 0 is any number. */
+  limitAddress({ steps, nodes, bytes }) {
+    const words = this.#words();
+    for (const [position, number] of [steps, nodes, bytes].entries()) {
+      words.setBigUint64(Number(this.#limit) + 8 * position, number, true);
+    }
+    return this.#limit;
   }
 
   #allocate(length) {

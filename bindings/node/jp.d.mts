@@ -3,14 +3,16 @@
 /**
  * A document that is kept, JSON text, as a string or as bytes, or any other value, which `JSON.stringify` writes
  * first; a BigInt in it is a whole number. A string is JSON text: the JSON text of the string `a` is `'"a"'`. What
- * JSON has not, as a Map, a function or NaN, is refused.
+ * JSON has not, as a Map, a function or NaN, is refused, and so is a Number that is whole and no safe integer, in whose
+ * place a BigInt is given.
  */
 export type DocumentLike = Document | string | Uint8Array | ArrayBuffer | object | number | bigint | boolean | null;
 
 /** A JSON value. A whole number that is no safe integer is a BigInt. */
 export type Value = string | number | bigint | boolean | null | Value[] | { [name: string]: Value };
 
-export interface Limit {
+/** The limit of what gives nodes one after another. */
+export interface StepLimit {
   /**
    * The most steps that a query may make over the document, from 1 to 2^64 - 1; one that needs more throws
    * `StepsUsedUp`. Without it there is no limit. What is only parsed, checked or made canonical makes no steps.
@@ -18,11 +20,25 @@ export interface Limit {
   limit?: number | bigint | null;
 }
 
-/** What may be said beside a query. Of a `Query` only `limit`. Another name is refused. */
+/** What a call may do and give at most, from 1 to 2^64 - 1 of each. */
+export interface Limit extends StepLimit {
+  /** The most nodes; where there are more `TooManyNodes` is thrown. */
+  maxNodes?: number | bigint | null;
+  /**
+   * The most bytes of the answer, else `TooManyBytes` is thrown. It has a line for each node: the path, a tab and the
+   * value, or one of these alone, in UTF-8 with a newline; of `exists` the path.
+   */
+  maxBytes?: number | bigint | null;
+}
+
+/** What may be said beside a query. Of a `Query` only limits. Another name is refused. */
 export interface Options extends Limit {
   /** Lets a query call `distinct`, which RFC 9535 does not have. */
   extended?: boolean;
 }
+
+/** The same where nodes are given one after another. */
+export type StepOptions = Omit<Options, "maxNodes" | "maxBytes">;
 
 /** A node that a query selects. */
 export class Match {
@@ -38,17 +54,19 @@ export class Match {
 }
 
 /**
- * A query that is accepted. It is read once, and asked of any number of documents. Its calls are those below; their
- * `limit` goes before its own.
+ * A query that is accepted. It is read once, and asked of any number of documents. Its calls are those below; a limit
+ * of theirs goes before its own of that kind.
  */
 export class Query {
   constructor(text: string, options?: Options);
   readonly text: string;
   readonly extended: boolean;
   readonly limit: number | bigint | undefined;
+  readonly maxNodes: number | bigint | undefined;
+  readonly maxBytes: number | bigint | undefined;
   find(document: DocumentLike, options?: Limit): Match[];
   findOne(document: DocumentLike, options?: Limit): Match | null;
-  findIter(document: DocumentLike, options?: Limit): Generator<Match, void, undefined>;
+  findIter(document: DocumentLike, options?: StepLimit): Generator<Match, void, undefined>;
   values(document: DocumentLike, options?: Limit): Value[];
   paths(document: DocumentLike, options?: Limit): string[];
   exists(document: DocumentLike, options?: Limit): boolean;
@@ -63,7 +81,7 @@ export class Document {
   constructor(document: Exclude<DocumentLike, Document>);
   find(query: string | Query, options?: Options): Match[];
   findOne(query: string | Query, options?: Options): Match | null;
-  findIter(query: string | Query, options?: Options): Generator<Match, void, undefined>;
+  findIter(query: string | Query, options?: StepOptions): Generator<Match, void, undefined>;
   values(query: string | Query, options?: Options): Value[];
   paths(query: string | Query, options?: Options): string[];
   exists(query: string | Query, options?: Options): boolean;
@@ -102,8 +120,9 @@ export class DocumentError extends Error {
     | "ListTooLong"
     | "DocumentTooLarge";
   /**
-   * Of `NotWhole`, the normalized path of the first number that is not a whole one of 64 bits, and of a value with
-   * NaN or an infinity, which has nothing of what follows but the sentence, that of the first of these.
+   * Of `NotWhole`, the normalized path of the first number that is not a whole one of 64 bits. Of a value with NaN, an
+   * infinity or a Number that is whole and no safe integer, the path of the first of these, and of what follows the
+   * sentence alone.
    */
   readonly path: string | null;
   /** The byte of the document, in UTF-8, where it goes wrong, from 0. */
@@ -125,6 +144,20 @@ export class StepsUsedUp extends Error {
   readonly query: string;
 }
 
+/** A query that selects more nodes of the document than the option `maxNodes` allows. */
+export class TooManyNodes extends Error {
+  readonly name: "TooManyNodes";
+  readonly limit: bigint;
+  readonly query: string;
+}
+
+/** A query whose answer has more bytes than the option `maxBytes` allows. */
+export class TooManyBytes extends Error {
+  readonly name: "TooManyBytes";
+  readonly limit: bigint;
+  readonly query: string;
+}
+
 /** The query, read once, to be asked of documents. Throws `QueryError` where it is not accepted. */
 export function compile(query: string, options?: Options): Query;
 
@@ -133,9 +166,9 @@ export function parse(query: string, options?: Options): Query;
 
 /**
  * The nodes that the query selects, in the order of RFC 9535; one that is selected twice stands there
- * twice. Throws `QueryError` or `DocumentError`, the query's first, `StepsUsedUp` where there is a limit and
- * the query needs more steps, `RangeError` where memory ran out, and `TypeError` where something else is given
- * than belongs there.
+ * twice. Throws `QueryError` or `DocumentError`, the query's first, `StepsUsedUp`, `TooManyNodes` or `TooManyBytes`
+ * where there is a limit and the query goes beyond it, `RangeError` where memory ran out, and `TypeError` where
+ * something else is given than belongs there.
  */
 export function find(query: string | Query, document: DocumentLike, options?: Options): Match[];
 
@@ -143,22 +176,23 @@ export function find(query: string | Query, document: DocumentLike, options?: Op
 export function findOne(query: string | Query, document: DocumentLike, options?: Options): Match | null;
 
 /**
- * The nodes that `find` gives, looked for as they are asked for: the first is found without the others, and all take
- * at most three times the steps of `find`. The query and the document are read at once, and the document is kept
- * until the iterator ends or is left. `StepsUsedUp` is thrown where the next nodes need more steps than the limit.
+ * The nodes that `find` gives, looked for as they are asked for, in pages: the first is found without the others. The
+ * query and the document are read at once, and the document is kept until the iterator ends or is left. Where all nodes
+ * need more steps than the limit some of the first may be given, and then `StepsUsedUp` is thrown. There is no other
+ * limit, since whoever goes through nodes can count them.
  */
 export function findIter(
-  query: string | Query, document: DocumentLike, options?: Options,
+  query: string | Query, document: DocumentLike, options?: StepOptions,
 ): Generator<Match, void, undefined>;
 
 /**
- * What `find` gives for each query, over one document that is read once, each with the whole limit. A query that is
- * refused, or needs more steps than the limit, has its error in the list, and ends nothing. Throws `DocumentError`
- * where a query that is accepted is asked of what is no document.
+ * What `find` gives for each query, over one document that is read once, each with the whole limits. A query that is
+ * refused, or goes beyond a limit, has its error in the list, and ends nothing. Throws `DocumentError` where a query
+ * that is accepted is asked of what is no document.
  */
 export function findMany(
   queries: Iterable<string | Query> & object, document: DocumentLike, options?: Options,
-): (Match[] | QueryError | StepsUsedUp)[];
+): (Match[] | QueryError | StepsUsedUp | TooManyNodes | TooManyBytes)[];
 
 /** The values of the nodes that `find` gives. */
 export function values(query: string | Query, document: DocumentLike, options?: Options): Value[];

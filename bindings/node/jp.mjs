@@ -9,16 +9,19 @@
  */
 import { answersOf, answersOfBytes, eachLineBy, engine, keptBy, linesBy, told } from "./asking.mjs";
 import { ALL, KeptQuery } from "./engine.mjs";
-import { DocumentError, QueryError, StepsUsedUp } from "./errors.mjs";
-import { BOTH, EXTENDED, NO_LIMIT, PATHS, STANDARD, VALUES } from "./numbers.mjs";
-import { optionsRead, typeOf } from "./options.mjs";
+import { DocumentError, QueryError, StepsUsedUp, TooManyBytes, TooManyNodes } from "./errors.mjs";
+import { BOTH, EXTENDED, PATHS, STANDARD, VALUES } from "./numbers.mjs";
+import { LIMITS, mostOf, optionsRead, typeOf } from "./options.mjs";
 import { stepsOf } from "./paths.mjs";
 import { bytesOf } from "./texts.mjs";
 import { bytesGiven, documentBytes, parsed } from "./values.mjs";
 
-export { DocumentError, QueryError, StepsUsedUp };
+export { DocumentError, QueryError, StepsUsedUp, TooManyBytes, TooManyNodes };
 
 const FIRST = [0n, 1n];
+// The limits that a call may have; one that gives nodes one after another counts steps alone.
+const EACH_LIMIT = Object.keys(LIMITS);
+const STEPS_ALONE = ["limit"];
 
 export class Match {
   constructor(path, text) {
@@ -41,18 +44,18 @@ let givenOf;
 
 export class Query {
   #question;
-  #limit;
+  #given;
 
   static {
     ownQuestionOf = (query) => query.#question;
   }
 
   constructor(text, options) {
-    const { profile, limit } = optionsRead(options);
+    const { profile, most } = optionsRead(options);
     const asked = new KeptQuery(queryBytes(text), profile);
     told(engine.keep(asked), text, profile);
-    this.#question = { asked, text, limit };
-    this.#limit = options?.limit ?? undefined;
+    this.#question = { asked, text, most };
+    this.#given = { ...options };
   }
 
   get text() {
@@ -64,7 +67,15 @@ export class Query {
   }
 
   get limit() {
-    return this.#limit;
+    return this.#given.limit ?? undefined;
+  }
+
+  get maxNodes() {
+    return this.#given.maxNodes ?? undefined;
+  }
+
+  get maxBytes() {
+    return this.#given.maxBytes ?? undefined;
   }
 
   find(document, options) {
@@ -148,7 +159,7 @@ export function findOne(query, document, options) {
 }
 
 export function findIter(query, document, options) {
-  const question = questionOfBoth(query, document, options);
+  const question = questionOfBoth(query, document, options, STEPS_ALONE);
   if (document instanceof Document) {
     return matchesOf(eachLineBy(givenOf(document), false, question, BOTH));
   }
@@ -211,25 +222,25 @@ function matchOf(line) {
 // The text that was asked last, which is read once where it is asked again.
 let lastAsked = { asked: { bytes: bytesOf("$"), profile: STANDARD }, text: "$" };
 
-/** What is asked: the query for the engine, its text, and the limit of steps. */
-function questionOf(query, options) {
+/** What is asked: the query for the engine, its text, and the limits, of which these may be given. */
+function questionOf(query, options, limits = EACH_LIMIT) {
   if (query instanceof Query) {
-    const { limit } = optionsRead(options, ["limit"]);
+    const { most } = optionsRead(options, limits);
     const own = ownQuestionOf(query);
-    return limit === NO_LIMIT ? own : { ...own, limit };
+    return options === undefined ? own : { ...own, most: mostOf(most, own.most) };
   }
-  const { profile, limit } = optionsRead(options);
+  const { profile, most } = optionsRead(options, ["extended", ...limits]);
   if (query !== lastAsked.text || profile !== lastAsked.asked.profile) {
     lastAsked = { asked: { bytes: queryBytes(query), profile }, text: query };
   }
-  return { ...lastAsked, limit };
+  return { ...lastAsked, most };
 }
 
-function questionOfBoth(query, document, options) {
+function questionOfBoth(query, document, options, limits = EACH_LIMIT) {
   if (isInWrongOrder(query, document)) {
     throw new TypeError("the query comes first, and the document after it");
   }
-  return questionOf(query, options);
+  return questionOf(query, options, limits);
 }
 
 function linesOf(query, document, options, form, span = ALL) {

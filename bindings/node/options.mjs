@@ -10,8 +10,16 @@ export function typeOf(value) {
   return name === "Object" ? value.constructor?.name || name : name;
 }
 
-/** What options say, of which only some may be given: the `profile`, and the `limit`, a BigInt of which 0 is none. */
-export function optionsRead(options, names = ["extended", "limit"]) {
+/** The options that are limits, each with the member of `most` that it is and what is counted. */
+export const LIMITS = { limit: "steps", maxNodes: "nodes", maxBytes: "bytes" };
+
+const NAMES = ["extended", ...Object.keys(LIMITS)];
+
+/**
+ * What options say, of which only some may be given: the `profile`, and the `most` steps, nodes and bytes, BigInts of
+ * which 0 is any number.
+ */
+export function optionsRead(options, names = NAMES) {
   if (options !== undefined && (typeof options !== "object" || Array.isArray(options))) {
     throw new TypeError(`options are an object, and not of type ${typeOf(options)}`);
   }
@@ -24,18 +32,27 @@ export function optionsRead(options, names = ["extended", "limit"]) {
   if (typeof extended !== "boolean") {
     throw new TypeError(`the option 'extended' is true or false, and not of type ${typeOf(extended)}`);
   }
-  return { profile: extended ? EXTENDED : STANDARD, limit: limitOf(options?.limit ?? null) };
+  const most = {};
+  for (const [name, counted] of Object.entries(LIMITS)) {
+    most[counted] = limitOf(options?.[name] ?? null, name, counted);
+  }
+  return { profile: extended ? EXTENDED : STANDARD, most };
 }
 
-function limitOf(limit) {
+/** The limits of a call, or where it has none of a kind those of the query. */
+export function mostOf({ steps, nodes, bytes }, own) {
+  return { steps: steps || own.steps, nodes: nodes || own.nodes, bytes: bytes || own.bytes };
+}
+
+function limitOf(limit, name, counted) {
   if (limit === null) {
     return NO_LIMIT;
   }
   if (typeof limit !== "bigint" && !Number.isSafeInteger(limit)) {
-    throw new TypeError("the option 'limit' is a whole number of steps, or a BigInt");
+    throw new TypeError(`the option '${name}' is a whole number of ${counted}, or a BigInt`);
   }
   if (limit < 1 || limit >= 2n ** 64n) {
-    throw new RangeError("the option 'limit' is a number of steps, from 1 to 2^64 - 1");
+    throw new RangeError(`the option '${name}' is a number of ${counted}, from 1 to 2^64 - 1`);
   }
   return BigInt(limit);
 }

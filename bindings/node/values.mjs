@@ -53,7 +53,10 @@ export function documentBytes(document) {
   return bytesGiven(document) ?? bytesOf(typeof document === "string" ? document : written(document));
 }
 
-/** A value as JSON text; a BigInt is a number in it. What JSON has not is refused, and not left out. */
+/**
+ * A value as JSON text; a BigInt is a number in it. What JSON has not is refused, and not left out, and so is a Number
+ * that is whole and no safe integer, of which JSON.stringify writes other digits.
+ */
 function written(document) {
   const mark = crypto.randomUUID();
   let hasBigInt = false;
@@ -63,7 +66,7 @@ function written(document) {
       hasBigInt = true;
       return mark + this[name];
     }
-    if (!isOfJson(part)) {
+    if (!isWritten(part)) {
       throw refusal(document, part);
     }
     return part;
@@ -74,11 +77,11 @@ function written(document) {
   return hasBigInt ? text.replace(new RegExp(`"${mark}(-?\\d+)"`, "g"), "$1") : text;
 }
 
-/** Whether JSON has such a value. Members that are undefined are left out, as JSON.stringify does with them. */
-function isOfJson(part) {
+/** Whether such a value is written. Members that are undefined are left out, as JSON.stringify does with them. */
+function isWritten(part) {
   switch (typeof part) {
     case "number":
-      return Number.isFinite(part);
+      return Number.isSafeInteger(part) || (Number.isFinite(part) && !Number.isInteger(part));
     case "function":
     case "symbol":
       return false;
@@ -98,14 +101,14 @@ function isRecord(object) {
   return Object.prototype.toString.call(object) === "[object Object]" && Object.keys(object).length > 0;
 }
 
-/** The error of a document in which a part is none of JSON, with the path of the first such part. */
+/** The error of a document in which a part is not written, with the path of the first such part. */
 function refusal(document, part) {
   const steps = new Map();
   try {
     JSON.stringify(document, function (name, it) {
       const above = steps.get(this);
       const own = above === undefined ? [] : [...above, Array.isArray(this) ? Number(name) : name];
-      if (!isOfJson(it)) {
+      if (!isWritten(it)) {
         throw refusalOf(it, own);
       }
       steps.set(it, own);
@@ -119,7 +122,10 @@ function refusal(document, part) {
 
 function refusalOf(part, steps) {
   const path = pathOf(steps);
-  return typeof part === "number"
-    ? new DocumentError("NotJson", path, { sentence: `${part} is no JSON number.` })
-    : new TypeError(`JSON has no value of type ${typeOf(part)}, as stands at ${path}`);
+  if (typeof part !== "number") {
+    return new TypeError(`JSON has no value of type ${typeOf(part)}, as stands at ${path}`);
+  }
+  return Number.isFinite(part)
+    ? new DocumentError("NotWhole", path, { sentence: `${part} is no safe integer: give a BigInt, or JSON text.` })
+    : new DocumentError("NotJson", path, { sentence: `${part} is no JSON number.` });
 }

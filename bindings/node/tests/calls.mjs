@@ -13,6 +13,12 @@ const STORE = {
   },
 };
 
+// Whole numbers beside the ends of what a Number holds exactly, and of 64 bits; and such as are beyond these.
+const [SAFE, MOST, LEAST] = [2n ** 53n - 1n, 2n ** 64n - 1n, -(2n ** 63n)];
+const WHOLE = [0n, SAFE, SAFE + 1n, SAFE + 2n, 2n ** 60n, 2n ** 63n - 1n].flatMap((it) => [it, -it]);
+WHOLE.push(2n ** 63n, MOST, LEAST);
+const BEYOND = [MOST + 1n, LEAST - 1n, 10n ** 30n, -(10n ** 30n)];
+
 /** The error that a call throws, which has to be one of a class. */
 function thrown(kind, call) {
   try {
@@ -38,13 +44,29 @@ test("order and repeats", () => {
   assert.deepEqual(jp.find("$.nothing", STORE), []);
 });
 
-test("whole numbers are exact", () => {
-  const text = '{"a":[18446744073709551615,-9223372036854775808,9007199254740993,9007199254740991]}';
-  const expected = [18446744073709551615n, -9223372036854775808n, 9007199254740993n, 9007199254740991];
-  assert.deepEqual(jp.values("$.a[*]", text), expected);
-  assert.deepEqual(jp.values("$.*", { a: expected }), [expected]);
+test("whole numbers are exact, from texts and from values", () => {
+  for (const whole of WHOLE) {
+    const value = -SAFE <= whole && whole <= SAFE ? Number(whole) : whole;
+    for (const document of [`[${whole}]`, [whole], [value], new jp.Document([whole])]) {
+      assert.equal(jp.findOne("$[0]", document).text, `${whole}`);
+      assert.deepEqual(jp.values("$[0]", document), [value]);
+      assert.deepEqual(jp.values(`$[?@==${whole}]`, document), [value]);
+      assert.deepEqual(jp.values(`$[?@!=${whole}]`, document), []);
+    }
+  }
   const mixed = { "1234567890123456": "n18446744073709551615", b: ["t\\\"", "9007199254740993:"], c: 2n ** 63n };
   assert.deepEqual(jp.values("$", mixed), [mixed]);
+  assert.deepEqual(jp.values("$[0]", [-0]), [0]);
+});
+
+test("whole numbers beyond 64 bits", () => {
+  for (const whole of BEYOND) {
+    for (const document of [`[0,${whole}]`, [0, whole]]) {
+      const refused = thrown(jp.DocumentError, () => jp.find("$", document));
+      assert.deepEqual([refused.kind, refused.path, refused.column], ["NotWhole", "$[1]", 4]);
+      assert.equal(refused.sentence, "This number is outside -(2^63) to (2^64)-1.");
+    }
+  }
 });
 
 test("documents as text, bytes and values", () => {
@@ -225,11 +247,13 @@ test("limits of queries that are kept, and of many", () => {
 test("what a limit is", () => {
   assert.deepEqual(jp.paths("$[0]", "[1]", { limit: 1 }), ["$[0]"]);
   assert.deepEqual(jp.paths("$[*]", "[1]", { limit: 2n ** 64n - 1n }), ["$[0]"]);
-  for (const limit of [0, -1, 2n ** 64n]) {
-    assert.throws(() => jp.paths("$", "[]", { limit }), RangeError);
-  }
-  for (const limit of [0.5, "1", Infinity]) {
-    assert.throws(() => jp.paths("$", "[]", { limit }), TypeError);
+  for (const name of ["limit", "maxNodes", "maxBytes"]) {
+    for (const limit of [0, -1, 2n ** 64n]) {
+      assert.throws(() => jp.paths("$", "[]", { [name]: limit }), RangeError);
+    }
+    for (const limit of [0.5, "1", Infinity]) {
+      assert.throws(() => jp.paths("$", "[]", { [name]: limit }), TypeError);
+    }
   }
 });
 

@@ -95,24 +95,26 @@ test("options that are none", () => {
   ];
   for (const call of calls) {
     for (const [options, message] of [
-      [{ limits: 1 }, "there is no option 'limits' here, only: extended, limit"],
-      [{ Extended: true }, "there is no option 'Extended' here, only: extended, limit"],
+      [{ limits: 1 }, "there is no option 'limits' here, only: extended, limit, maxNodes, maxBytes"],
+      [{ Extended: true }, "there is no option 'Extended' here, only: extended, limit, maxNodes, maxBytes"],
       [{ extended: "no" }, "the option 'extended' is true or false, and not of type string"],
       [{ extended: 1 }, "the option 'extended' is true or false, and not of type number"],
       [{ limit: "1" }, "the option 'limit' is a whole number of steps, or a BigInt"],
       [{ limit: NaN }, "the option 'limit' is a whole number of steps, or a BigInt"],
+      [{ maxNodes: "1" }, "the option 'maxNodes' is a whole number of nodes, or a BigInt"],
+      [{ maxBytes: 0.5 }, "the option 'maxBytes' is a whole number of bytes, or a BigInt"],
       [true, "options are an object, and not of type boolean"],
       ["extended", "options are an object, and not of type string"],
       [[], "options are an object, and not of type Array"],
     ]) {
       assert.throws(() => call(options), typeError(message));
     }
-    for (const options of [undefined, null, {}, { extended: undefined, limit: undefined }, { limit: null }]) {
+    for (const options of [undefined, null, {}, { extended: undefined, limit: undefined }, { limit: null, maxNodes: null }]) {
       assert.doesNotThrow(() => call(options));
     }
   }
   const query = jp.compile("$");
-  const isFixed = typeError("there is no option 'extended' here, only: limit");
+  const isFixed = typeError("there is no option 'extended' here, only: limit, maxNodes, maxBytes");
   for (const call of [jp.find.bind(null, query), query.find.bind(query)]) {
     assert.throws(() => call("1", { extended: true }), isFixed);
   }
@@ -183,6 +185,30 @@ test("numbers that JSON has not", () => {
       };
       assert.throws(() => jp.find("$", document), refused);
       assert.throws(() => new jp.Document(document), refused);
+    }
+  }
+});
+
+test("Numbers that are whole and no safe integers", () => {
+  for (const number of [2 ** 53, 2 ** 53 + 2, 2 ** 60, 2 ** 63, 2 ** 64, 1e21, 1e300].flatMap((it) => [it, -it])) {
+    for (const [document, path] of [
+      [number, "$"],
+      [{ a: [2n ** 60n, number] }, "$['a'][1]"],
+      [[{ toJSON: () => number }], "$[0]"],
+    ]) {
+      const refused = {
+        name: "DocumentError",
+        kind: "NotWhole",
+        path,
+        offset: null,
+        line: null,
+        column: null,
+        reason: null,
+        sentence: `${number} is no safe integer: give a BigInt, or JSON text.`,
+      };
+      for (const call of [(it) => jp.find("$", it), (it) => new jp.Document(it), (it) => jp.findMany(["$"], it)]) {
+        assert.throws(() => call(document), refused);
+      }
     }
   }
 });

@@ -5,7 +5,7 @@ import test from "node:test";
 import v8 from "node:v8";
 import vm from "node:vm";
 import { eachLineBy, engine } from "../asking.mjs";
-import { Engine, KeptDocument, KeptQuery } from "../engine.mjs";
+import { Engine, KeptDocument, KeptQuery, UNLIMITED } from "../engine.mjs";
 import * as jp from "../jp.mjs";
 import { DOCUMENT_REFUSED, DONE, PATHS, QUERY_REFUSED, STANDARD, VALUES } from "../numbers.mjs";
 import { bytesOf, textOf } from "../texts.mjs";
@@ -58,7 +58,51 @@ for (const way of Object.keys(ways("$", "0"))) {
     assert.throws(() => ways("$[*]", "[1,2]", { limit: 6 })[way]("values"), new jp.StepsUsedUp(6n, "$[*]"));
     assert.deepEqual(ways("$[?distinct(@.*)]", "[{},[0]]", { extended: true })[way]("paths"), ["$[1]"]);
   });
+
+  // How many nodes are asked for, and the bytes of their lines: `$[0]`, a tab, 1 and a newline are seven.
+  test(`a most of nodes and bytes by ${way}, and one less`, () => {
+    for (const [name, query, nodes, bytes] of [
+      ["find", "$[*]", 2, 7 + 8],
+      ["values", "$[*]", 2, 2 + 3],
+      ["paths", "$[*]", 2, 2 * 5],
+      ["findOne", "$[*]", 1, 7],
+      ["exists", "$[*]", 1, 5],
+      ["values", "$[1]", 1, 3],
+      ["values", "$..[?@>1]", 1, 3],
+    ]) {
+      const call = (options) => ways(query, "[1,22]", options)[way](name);
+      assert.deepEqual(call({ maxNodes: nodes, maxBytes: BigInt(bytes) }), call({}));
+      const fault = new jp.TooManyBytes(BigInt(bytes - 1), query);
+      assert.throws(() => call({ limit: 100, maxNodes: nodes, maxBytes: bytes - 1 }), fault);
+      if (nodes > 1) {
+        assert.throws(() => call({ maxNodes: nodes - 1, maxBytes: bytes }), new jp.TooManyNodes(BigInt(nodes - 1), query));
+      }
+    }
+    // A node is counted before its line is made.
+    const call = (options) => ways("$..*", "[1,22,3]", options)[way]("values");
+    assert.throws(() => call({ maxNodes: 1, maxBytes: 1 }), new jp.TooManyBytes(1n, "$..*"));
+    assert.throws(() => call({ maxNodes: 1, maxBytes: 2 }), new jp.TooManyNodes(1n, "$..*"));
+    assert.throws(() => call({ limit: 1, maxNodes: 1, maxBytes: 1 }), new jp.StepsUsedUp(1n, "$..*"));
+  });
 }
+
+test("a most of nodes and bytes of many queries", () => {
+  const queries = ["$[*]", "$[01]", "$[1]", jp.compile("$[0,1]", { maxNodes: 2 }), jp.compile("$[0]", { maxBytes: 1 })];
+  for (const document of ["[1,22]", new jp.Document("[1,22]")]) {
+    const kinds = (options) => jp.findMany(queries, document, options).map((answer) => answer.constructor);
+    assert.deepEqual(kinds(undefined), [Array, jp.QueryError, Array, Array, jp.TooManyBytes]);
+    assert.deepEqual(kinds({ maxNodes: 1 }), [jp.TooManyNodes, jp.QueryError, Array, jp.TooManyNodes, jp.TooManyBytes]);
+    assert.deepEqual(kinds({ maxBytes: 8 }), [jp.TooManyBytes, jp.QueryError, Array, jp.TooManyBytes, Array]);
+  }
+});
+
+test("one node after another takes steps alone", () => {
+  const message = "there is no option 'maxNodes' here, only: extended, limit";
+  assert.throws(() => jp.findIter("$[*]", "[1,2]", { maxNodes: 1 }), new TypeError(message));
+  const query = jp.compile("$[*]", { maxNodes: 1, maxBytes: 1 });
+  assert.throws(() => query.findIter("[1,2]", { maxBytes: 1 }), TypeError);
+  assert.equal([...query.findIter("[1,2]")].length, 2);
+});
 
 test("the first node ends the evaluation", () => {
   const query = jp.compile("$[*]", { limit: 6 });
@@ -89,6 +133,33 @@ test("the first of a million nodes is found alone", () => {
   assert.deepEqual([...each], []);
 });
 
+test("all nodes take three times the steps of one call at most, wherever they stand", () => {
+  const ends = { early: [0, 20, 1], late: [1800, 2000, 1], rare: [99, 2000, 100], none: [0, 0, 1], all: [0, 2000, 1] };
+  for (const [where, [from, to, each]] of Object.entries(ends)) {
+    const isNode = (at) => at >= from && at < to && (at - from) % each === 0;
+    const document = bytesOf(`[${Array.from({ length: 2000 }, (_, at) => (isNode(at) ? 1 : 0)).join(",")}]`);
+    const question = { asked: new KeptQuery(bytesOf("$[?@==1]"), STANDARD), text: "$[?@==1]", most: UNLIMITED };
+    const kept = new KeptDocument(document);
+    const once = engine.ask(question.asked, kept, PATHS);
+    const [steps, expected] = [once.steps, textOf(once.text).split("\n").slice(0, -1)];
+    const made = [];
+    const ask = (...words) => {
+      const outcome = engine.ask(...words);
+      made.push(outcome.steps);
+      return outcome;
+    };
+    assert.deepEqual([...eachLineBy({ asks: { ask }, kept }, false, question, PATHS)], expected);
+    const all = made.reduce((sum, it) => sum + it, 0n);
+    assert.ok(steps <= all && all <= 3n * steps, `${where}: ${all} steps, and ${steps} at once`);
+    // With a limit that is one too low.
+    made.length = 0;
+    const fewer = { ...question, most: { ...UNLIMITED, steps: steps - 1n } };
+    const limited = eachLineBy({ asks: { ask }, kept }, false, fewer, PATHS);
+    assert.throws(() => [...limited], jp.StepsUsedUp);
+    assert.ok(made.every((it) => it < steps) && made.reduce((sum, it) => sum + it, 0n) <= 3n * (steps - 1n), where);
+  }
+});
+
 test("what is asked for one after another goes on beside other calls", () => {
   const query = jp.compile("$..b");
   const bytes = bytesOf('{"b":[{"b":4},5,{"b":6}]}');
@@ -102,10 +173,12 @@ test("what is asked for one after another goes on beside other calls", () => {
 });
 
 test("what a query tells of itself", () => {
-  const query = jp.compile("$ .a", { extended: true, limit: 7 });
-  assert.deepEqual([query.text, `${query}`, query.extended, query.limit], ["$ .a", "$ .a", true, 7]);
+  const query = jp.compile("$ .a", { extended: true, limit: 7, maxNodes: 8n, maxBytes: 9 });
+  assert.deepEqual([query.text, `${query}`, query.extended], ["$ .a", "$ .a", true]);
+  assert.deepEqual([query.limit, query.maxNodes, query.maxBytes], [7, 8n, 9]);
   const bare = new jp.Query("$");
-  assert.deepEqual([bare.text, bare.extended, bare.limit], ["$", false, undefined]);
+  assert.deepEqual([bare.text, bare.extended], ["$", false]);
+  assert.deepEqual([bare.limit, bare.maxNodes, bare.maxBytes], [undefined, undefined, undefined]);
 });
 
 test("a limit of a call goes before the query's", () => {
@@ -114,6 +187,11 @@ test("a limit of a call goes before the query's", () => {
   assert.deepEqual(query.values([1, 2], { limit: 7 }), [1, 2]);
   assert.deepEqual(document.values(query, { limit: 7n }), [1, 2]);
   assert.throws(() => jp.compile("$[*]", { limit: 7 }).values(document, { limit: 6 }), jp.StepsUsedUp);
+  // Those of other kinds stay.
+  const one = jp.compile("$[*]", { maxNodes: 1, maxBytes: 3 });
+  assert.throws(() => one.values(document, { maxBytes: 9 }), new jp.TooManyNodes(1n, "$[*]"));
+  assert.throws(() => one.values(document, { maxNodes: 2 }), new jp.TooManyBytes(3n, "$[*]"));
+  assert.deepEqual(one.values(document, { maxNodes: 2, maxBytes: 4 }), [1, 2]);
 });
 
 test("names and indexes of a match", () => {
@@ -278,7 +356,7 @@ test("a document that is kept is kept where the memory of an answer is given bac
 });
 
 test("a document that is kept for an iterator is forgotten with it", () => {
-  const question = { asked: new KeptQuery(bytesOf("$[*]"), STANDARD), text: "$[*]", limit: 0n };
+  const question = { asked: new KeptQuery(bytesOf("$[*]"), STANDARD), text: "$[*]", most: UNLIMITED };
   for (const isEnded of [false, true]) {
     const given = { asks: new Engine(module), kept: new KeptDocument(LARGE) };
     const each = eachLineBy(given, true, question, VALUES);

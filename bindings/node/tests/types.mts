@@ -1,7 +1,7 @@
 /** What the types let through, and what they refuse. It is compiled and not run. */
 import * as jp from "../jp.mjs";
 
-const query: jp.Query = jp.compile("$.a", { extended: true, limit: 10n });
+const query: jp.Query = jp.compile("$.a", { extended: true, limit: 10n, maxNodes: 7, maxBytes: 8n });
 const document: jp.Document = new jp.Document('{"a":1}');
 const given: jp.DocumentLike[] = [document, "1", new Uint8Array(), new ArrayBuffer(0), { a: [1] }, 1, 2n, true, null];
 
@@ -9,7 +9,7 @@ for (const it of given) {
   for (const asked of ["$.a", query]) {
     const matches: jp.Match[] = jp.find(asked, it);
     const first: jp.Match | null = jp.findOne(asked, it, { limit: 1 });
-    const values: jp.Value[] = jp.values(asked, it);
+    const values: jp.Value[] = jp.values(asked, it, { maxNodes: 1, maxBytes: null });
     const paths: string[] = jp.paths(asked, it);
     const is: boolean = jp.exists(asked, it);
     for (const match of jp.findIter(asked, it, { limit: 1 })) {
@@ -34,7 +34,10 @@ const kept: [jp.Match[], jp.Match | null, jp.Value[], string[], boolean] = [
   document.paths("$", { limit: 1n }),
   document.exists(query),
 ];
-const many: (jp.Match[] | jp.QueryError | jp.StepsUsedUp)[] = jp.findMany(["$", query], document);
+const many: (jp.Match[] | jp.QueryError | jp.StepsUsedUp | jp.TooManyNodes | jp.TooManyBytes)[] = jp.findMany(
+  ["$", query],
+  document,
+);
 const iterators: Iterable<jp.Match>[] = [query.findIter(document), document.findIter("$", { extended: true })];
 const texts: string[] = [jp.canonical("$"), jp.version(), `${query}`, query.text];
 console.log(kept, many, iterators, texts, jp.check("$"), jp.parse("$") instanceof jp.Query);
@@ -69,6 +72,8 @@ jp.findMany("$..a", document);
 jp.find("$", document, { limits: 1 });
 // @ts-expect-error A limit is a number.
 jp.find("$", document, { limit: "1" });
+// @ts-expect-error Nodes that are given one after another are not counted.
+jp.findIter("$", document, { maxNodes: 1 });
 // @ts-expect-error A query that is kept has its profile.
 query.find(document, { extended: true });
 // @ts-expect-error The document is missing.

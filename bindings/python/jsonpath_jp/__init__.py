@@ -20,14 +20,15 @@ numbers are whole numbers of 64 bits, and are given back exactly. `extended=True
 
 Some queries take years over a document of a few bytes. `limit=1_000_000` lets a query make at most a
 million steps over the document, and raises `StepsUsedUp` where it needs more. Without a limit a query
-goes on until it is answered, or Ctrl-C is pressed.
+goes on until it is answered, or Ctrl-C is pressed. `max_nodes` and `max_bytes` bound the answer, and raise
+`TooManyNodes` and `TooManyBytes`.
 
-    >>> jp.values("$[?@>1]", [1, 2], limit=100)
+    >>> jp.values("$[?@>1]", [1, 2], limit=100, max_nodes=10)
     [2]
 
 Any thread may make any call, at the same time as others; Python's lock is given up meanwhile.
 """
-from ._errors import DocumentError, Error, QueryError, StepsUsedUp
+from ._errors import DocumentError, Error, QueryError, StepsUsedUp, TooManyBytes, TooManyNodes
 from ._library import version
 from ._queries import (
     Document,
@@ -56,6 +57,8 @@ __all__ = [
     "Query",
     "QueryError",
     "StepsUsedUp",
+    "TooManyBytes",
+    "TooManyNodes",
     "canonical",
     "check",
     "compile",

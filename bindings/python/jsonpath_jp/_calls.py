@@ -4,9 +4,10 @@ import functools
 from typing import Any, Callable, Dict, List, Optional, Tuple, Union
 
 from . import _numbers
-from ._errors import DocumentError, QueryError, StepsUsedUp
+from ._errors import DocumentError, QueryError, StepsUsedUp, TooManyBytes, TooManyNodes
 from ._library import Place, Report, library
-from ._threads import on_a_thread
+from ._limits import ANY, LARGEST_AT_ONCE, Most
+from ._threads import on_a_thread, waited_for
 
 _NO_MEMORY_TEXT = "jp ran out of memory"
 _FIRST_ROOM = 1 << 12
@@ -30,6 +31,14 @@ def with_room(function: Callable[..., Any]) -> Callable[..., Any]:
         return on_a_thread(function, *arguments)
 
     return on_either
+
+
+def reading(size: int, function: Callable[..., Any], *arguments: Any) -> Any:
+    """What the function gives or raises, which reads texts of so many bytes together: called on a thread of its own
+    where these are many, so that an interrupt does not wait for it."""
+    if size > LARGEST_AT_ONCE:
+        return waited_for(function, *arguments)
+    return function(*arguments)
 
 
 class Room:
@@ -76,12 +85,12 @@ def told(call, *arguments) -> Tuple[Report, str]:
 
 
 def answer_of(
-    call, query: str, profile: int, *arguments, document: Optional[bytes] = None
+    call, query: str, profile: int, *arguments, document: Optional[bytes] = None, most: Most = ANY
 ) -> Union[str, Exception]:
     """The text that a call writes, or the error in its place. Of a document that is refused that tells
     where and why, if it is given."""
     report, text = told(call, *arguments)
-    fault = refusal(report, query, profile, text, document) if report.status else None
+    fault = refusal(report, query, profile, text, document, most) if report.status else None
     return text if fault is None else fault
 
 
@@ -102,9 +111,13 @@ def accepted(call, query: str, profile: int, *arguments) -> None:
 
 
 def refusal(
-    report: Report, query: str, profile: int, text: str, document: Optional[bytes] = None
+    report: Report, query: str, profile: int, text: str, document: Optional[bytes] = None, most: Most = ANY
 ) -> Optional[Exception]:
     """The error that a report tells of."""
+    beyond = _BEYOND.get(report.status)
+    if beyond is not None:
+        fault, number = beyond
+        return fault(most[number], query)
     if report.status == _numbers.QUERY_REFUSED:
         parts = (_part(query, profile, part) for part in (_numbers.SENTENCE, _numbers.SUGGESTION))
         return QueryError(_kind_name(_numbers.QUERY_REFUSED, report.kind), report.place, query, *parts)
@@ -115,11 +128,17 @@ def refusal(
         )
     if report.status == _numbers.NO_MEMORY:
         return MemoryError(_NO_MEMORY_TEXT)
-    if report.status == _numbers.STEPS_USED_UP:
-        return StepsUsedUp(report.steps, query)
     if report.status == _numbers.NO_STACK:
         raise NoStack
     return None
+
+
+# The errors of a limit, each with where that stands among the others.
+_BEYOND = {
+    _numbers.STEPS_USED_UP: (StepsUsedUp, 0),
+    _numbers.TOO_MANY_NODES: (TooManyNodes, 1),
+    _numbers.TOO_MANY_BYTES: (TooManyBytes, 2),
+}
 
 
 @functools.lru_cache(maxsize=None)

@@ -2,9 +2,9 @@
 import contextlib
 import json
 import math
-from typing import Any, Callable, List, Optional
+from typing import Any, Callable, List, NoReturn, Optional, Tuple
 
-from ._errors import DocumentError
+from ._errors import DocumentError, printable
 from ._paths import Step, path_of
 
 Default = Optional[Callable[[Any], Any]]
@@ -39,34 +39,55 @@ def _written(value: Any, default: Default) -> str:
     # of key stand side by side. Only such may be written alike.
     with contextlib.suppress(TypeError, ValueError, RecursionError):
         return (_write if default is None else _writer(default, True))(value)
-    _refuse(value, default, [])
     try:
+        _refuse(value, default, [], ())
         return _writer(default, False)(value)
     except RecursionError:
-        sentence = f"Lists and objects nest more than {_MOST_LEVELS} levels deep."
-        raise DocumentError("NotJson", reason="TooManyLevels", sentence=sentence) from None
+        raise _too_deep() from None
 
 
-def _refuse(value: Any, default: Default, steps: List[Step]) -> None:
-    """Raises the error of the first thing in the value that is no JSON, if there is any that is not too deep."""
-    if len(steps) > _MOST_LEVELS or value is None or isinstance(value, (str, int)):
+def _refuse(value: Any, default: Default, steps: List[Step], above: Tuple[int, ...]) -> None:
+    """Raises the error of the first thing in the value that is no JSON, if there is any. Above it stand the objects
+    of these identities."""
+    if value is None or isinstance(value, str):
+        return
+    if isinstance(value, int):
+        _refuse_digits(value, steps)
         return
     if isinstance(value, float):
         if not math.isfinite(value):
             _raise_no_json(steps, f"{json.dumps(value)} is no JSON number.")
-    elif isinstance(value, dict):
-        _refuse_members(value, default, steps)
+        return
+    if id(value) in above:
+        _raise_no_json(steps, f"A {type(value).__name__} stands inside itself.")
+    _refuse_parts(value, default, steps, (*above, id(value)))
+
+
+def _refuse_parts(value: Any, default: Default, steps: List[Step], above: Tuple[int, ...]) -> None:
+    if isinstance(value, (dict, list, tuple)) and len(steps) == _MOST_LEVELS:
+        raise _too_deep()
+    if isinstance(value, dict):
+        _refuse_members(value, default, steps, above)
     elif isinstance(value, (list, tuple)):
         for index, item in enumerate(value):
-            _refuse(item, default, [*steps, index])
+            _refuse(item, default, [*steps, index], above)
     elif default is None:
-        name = type(value).__name__
-        raise TypeError(f"no JSON is made of a {name}, as at {path_of(steps)}: give default=, as to json.dumps")
+        name, path = type(value).__name__, printable(path_of(steps))
+        raise TypeError(f"no JSON is made of a {name}, as at {path}: give default=, as to json.dumps")
     else:
-        _refuse(default(value), default, steps)
+        _refuse(default(value), default, steps, above)
 
 
-def _refuse_members(value: dict, default: Default, steps: List[Step]) -> None:
+def _refuse_digits(number: int, steps: List[Step]) -> None:
+    try:
+        int.__repr__(number)
+    except ValueError:
+        # Python writes so many digits in no text, whatever may be read there.
+        sentence = "This number is too large for a float of 64 bits."
+        raise DocumentError("NotJson", path_of(steps), reason="BeyondFloat", sentence=sentence) from None
+
+
+def _refuse_members(value: dict, default: Default, steps: List[Step], above: Tuple[int, ...]) -> None:
     keys = {}
     for key, item in value.items():
         name = _name_of(key, steps)
@@ -74,7 +95,7 @@ def _refuse_members(value: dict, default: Default, steps: List[Step]) -> None:
             both = f"The keys {keys[name]!r} and {key!r}"
             _raise_no_json(steps, f"{both} have one name in JSON, {json.dumps(name)}.")
         keys[name] = key
-        _refuse(item, default, [*steps, name])
+        _refuse(item, default, [*steps, name], above)
 
 
 def _name_of(key: Any, steps: List[Step]) -> str:
@@ -84,14 +105,23 @@ def _name_of(key: Any, steps: List[Step]) -> str:
     if key is None or isinstance(key, bool):
         return json.dumps(key)
     if isinstance(key, int):
-        return int.__repr__(key)
+        try:
+            return int.__repr__(key)
+        except ValueError:
+            _raise_no_json(steps, "A key has more digits than Python writes.")
     if not isinstance(key, float):
         name = type(key).__name__
-        raise TypeError(f"a key is a str, int, float, bool or None, and no {name}, as at {path_of(steps)}")
+        path = printable(path_of(steps))
+        raise TypeError(f"a key is a str, int, float, bool or None, and no {name}, as at {path}")
     if not math.isfinite(key):
         _raise_no_json(steps, f"The key {json.dumps(key)} is no JSON number.")
     return float.__repr__(key)
 
 
-def _raise_no_json(steps: List[Step], sentence: str) -> None:
-    raise DocumentError("NotJson", path_of(steps), sentence=sentence)
+def _raise_no_json(steps: List[Step], sentence: str) -> NoReturn:
+    raise DocumentError("NotJson", path_of(steps), sentence=sentence) from None
+
+
+def _too_deep() -> DocumentError:
+    sentence = f"Lists and objects nest more than {_MOST_LEVELS} levels deep."
+    return DocumentError("NotJson", reason="TooManyLevels", sentence=sentence)

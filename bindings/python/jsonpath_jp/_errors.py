@@ -1,9 +1,18 @@
 """The errors of this package."""
+import re
 from typing import Optional
+
+_HALF = re.compile("[\ud800-\udfff]")
+
+
+def printable(text: str) -> str:
+    """The text with U+FFFD in place of each half of a surrogate pair, which no terminal can be sent."""
+    return _HALF.sub("\ufffd", text)
 
 
 class Error(Exception):
-    """What this package raises of its own: `QueryError`, `DocumentError` or `StepsUsedUp`."""
+    """What this package raises of its own: `QueryError`, `DocumentError`, `StepsUsedUp`, `TooManyNodes` or
+    `TooManyBytes`."""
 
 
 class QueryError(Error, ValueError):
@@ -36,7 +45,7 @@ class QueryError(Error, ValueError):
         return len(before.decode("utf-8", "surrogatepass"))
 
     def __str__(self) -> str:
-        line = self.query.replace("\n", " ").replace("\t", " ").replace("\r", " ")
+        line = printable(self.query.replace("\n", " ").replace("\t", " ").replace("\r", " "))
         sentence = "" if self.sentence is None else f"\n{self.sentence}"
         return f"query refused: {self.kind} at {self.place}\n{line}\n{' ' * self.column}^{sentence}"
 
@@ -51,8 +60,8 @@ class DocumentError(Error, ValueError):
     words. These five are None of "DocumentTooLarge", of which nothing was read.
 
     Of a Python object that can't be written as JSON, as one with NaN, kind is "NotJson" and sentence says
-    why. path is that of the first such thing in it, and there is no text of which offset, line and column
-    could tell.
+    why. path is that of the first such thing in it, unless that is too deep, and there is no text of which
+    offset, line and column could tell.
     """
 
     def __init__(
@@ -75,22 +84,50 @@ class DocumentError(Error, ValueError):
         self.sentence = sentence
 
     def __str__(self) -> str:
-        at = "" if self.path is None else f" at {self.path}"
+        at = "" if self.path is None else f" at {printable(self.path)}"
         place = "" if self.line is None else f"line {self.line}, column {self.column}: "
         why = "" if self.sentence is None else f"\n{place}{self.sentence}"
         return f"document refused: {self.kind}{at}{why}"
 
 
-class StepsUsedUp(Error):
-    """A query that needs more steps over the document than its caller allows.
-
-    limit: how many are allowed. query: its text.
-    """
+class _BeyondLimit(Error):
+    """A query that does or gives more over the document than its caller allows."""
 
     def __init__(self, limit: int, query: str) -> None:
         super().__init__(limit, query)
         self.limit = limit
         self.query = query
 
+
+class StepsUsedUp(_BeyondLimit):
+    """A query that needs more steps over the document than its caller allows.
+
+    limit: how many are allowed. query: its text.
+    """
+
     def __str__(self) -> str:
         return f"steps used up: the query needs more than {self.limit}"
+
+
+class TooManyNodes(_BeyondLimit):
+    """A query that selects more nodes of the document than its caller allows.
+
+    limit: how many are allowed. query: its text.
+    """
+
+    def __str__(self) -> str:
+        return f"too many nodes: the query selects more than {self.limit}"
+
+
+class TooManyBytes(_BeyondLimit):
+    """A query whose answer has more bytes than its caller allows.
+
+    limit: how many are allowed. query: its text.
+    """
+
+    def __str__(self) -> str:
+        return f"too many bytes: the answer has more than {self.limit}"
+
+
+# What ends one of many queries, and none of the others.
+QueryFault = (QueryError, _BeyondLimit)

@@ -1,41 +1,23 @@
-"""Queries and documents that handles keep.
-
-A call sees no signal. So it makes at most so many steps, and is made again with twice as many until there is
-an answer. All runs but the first are made on a thread of their own, so that whoever waits can be interrupted.
-"""
+"""Queries and documents that handles keep."""
 import ctypes
 import threading
-from typing import Iterator, List, Optional, Tuple, Union
+from typing import List, Optional, Tuple, Union
 
-from . import _numbers
-from ._calls import LARGEST_KEPT, NoStack, accepted, answer_of, encoded, raised, refusal, with_room
-from ._errors import Error, StepsUsedUp
-from ._library import Handle, Report, Text, library
+from . import _limits, _numbers
+from ._calls import LARGEST_KEPT, NoStack, accepted, answer_of, encoded, raised, reading, refusal, with_room
+from ._errors import Error
+from ._library import Cursor, Handle, Report, Text, library
+from ._limits import ANY, GROWTH, LARGEST_AT_ONCE, Most, Run, first_run, is_short, run_of
 from ._threads import forks, is_left, on_a_thread, waited_for
 
-# The steps of the first run of a query, which take less than a second.
-FIRST_RUN = 1 << 24
 # Which nodes are asked for: how many are passed over, and how many of the others are given, where 0 is all.
 Span = Tuple[int, int]
 ALL: Span = (0, 0)
 FIRST: Span = (0, 1)
+# Of a kept document also the next page of a cursor, which that goes on to.
+Wanted = Union[Span, Cursor]
 # How many handles of a query are kept that no call uses.
 _MOST_SPARE = 16
-
-
-def runs(first: int, limit: Optional[int]) -> Iterator[int]:
-    """How many steps a query may make in each of its runs: in each twice as many as in the one before,
-    and in the last, where there is one, as many as its caller allows. The runs before the last cost less
-    than twice what it costs."""
-    while limit is None or first < limit:
-        yield first
-        first *= 2
-    yield limit
-
-
-def is_short(answer: object, limit: Optional[int]) -> bool:
-    """Whether a run ended for its own number of steps, and not for its caller's."""
-    return isinstance(answer, StepsUsedUp) and answer.limit != limit
 
 
 class _Reading:
@@ -75,19 +57,20 @@ class KeptDocument:
 
     def __init__(self, text: bytes) -> None:
         self.text = text
-        self._reading: Optional[_Reading] = with_room(_Reading)(text)
+        self._reading: Optional[_Reading] = reading(len(text), with_room(_Reading), text)
 
-    def asked_by(self, asker: "_Asker", form: int, span: Span, steps: int) -> int:
-        reading = self._reading
-        if reading is not None and reading.is_lost():
-            _lost.append(reading)
-            reading = None
-        if reading is None:
-            reading = self._reading = _Reading(self.text)
-        with reading.lock:
-            return library.jp_ask_document(
-                asker.handle, reading.handle, form, *span, steps, asker.text, asker.report
-            )
+    def asked_by(self, asker: "_Asker", form: int, wanted: Wanted, run: Run) -> int:
+        read = self._reading
+        if read is not None and read.is_lost():
+            _lost.append(read)
+            read = None
+        if read is None:
+            read = self._reading = reading(len(self.text), _Reading, self.text)
+        handles, told = (asker.handle, read.handle), (asker.text, asker.report)
+        with read.lock:
+            if isinstance(wanted, Cursor):
+                return library.jp_next_page(wanted, *handles, run.most.steps, *told)
+            return library.jp_ask_document(*handles, form, *wanted, run.limit, *told)
 
     def leave(self) -> None:
         """Leaves the handle to a call that nobody waits for any longer, so that others don't wait for it."""
@@ -118,21 +101,23 @@ class KeptQuery:
         self.text = text
         self.encoded = encoded(text)
         self.profile = profile
-        self._spare: List[_Asker] = [with_room(_Asker)(self)]
+        self._spare: List[_Asker] = [reading(len(self.encoded), with_room(_Asker), self)]
 
-    def ask(
-        self, document: Union[bytes, KeptDocument], form: int, span: Span, limit: Optional[int]
-    ) -> str:
+    def ask(self, document: Union[bytes, KeptDocument], form: int, wanted: Wanted, most: Most) -> str:
         """The lines of the nodes asked for that the query selects."""
-        steps = FIRST_RUN if limit is None or limit > FIRST_RUN else limit
+        if isinstance(document, bytes) and len(document) > LARGEST_AT_ONCE:
+            return raised(waited_for(self._ask_long, document, form, wanted, most))
+        run = _limits.FIRST if most is ANY else run_of(most, _limits.FIRST_RUN, _limits.FIRST_BYTES)
         try:
-            answer = self._once(document, form, span, steps)
+            answer = self._once(document, form, wanted, run)
         except NoStack:
-            answer = on_a_thread(self._once, document, form, span, steps)
-        if not is_short(answer, limit):
-            return raised(answer)
+            answer = on_a_thread(self._once, document, form, wanted, run)
+        if isinstance(answer, str):
+            return answer
+        if not is_short(answer, most):
+            raise answer
         try:
-            return raised(waited_for(self.go_on, document, form, span, runs(2 * FIRST_RUN, limit)))
+            return raised(waited_for(self.go_on, document, form, wanted, most, _limits.FIRST_RUN))
         except (Error, MemoryError):
             raise
         except BaseException:
@@ -140,20 +125,30 @@ class KeptQuery:
                 document.leave()
             raise
 
-    def go_on(
-        self, document: Union[bytes, KeptDocument], form: int, span: Span, each: Iterator[int]
-    ) -> Union[str, Exception]:
-        """What the query answers in the first of the runs that suffices, or at the latest in the last, on a
-        thread with room."""
-        kept = document if isinstance(document, KeptDocument) else KeptDocument(document)
-        for steps in each:
-            answer = self._once(kept, form, span, steps)
-            if not isinstance(answer, StepsUsedUp) or is_left():
-                break
+    @with_room
+    def _ask_long(self, document: bytes, form: int, wanted: Wanted, most: Most) -> Union[str, Exception]:
+        """What the query answers of a document of many bytes, on a thread with room."""
+        first = first_run(len(document))
+        answer = self._once(document, form, wanted, run_of(most, first))
+        if is_short(answer, most) and not is_left():
+            answer = self.go_on(document, form, wanted, most, first)
         return answer
 
+    def go_on(
+        self, document: Union[bytes, KeptDocument], form: int, wanted: Wanted, most: Most, made: int
+    ) -> Union[str, Exception]:
+        """What the query answers after a run of so many steps, in runs of ever more, on a thread with room. It ends
+        with the run that is made when nobody waits for it any longer."""
+        kept = document if isinstance(document, KeptDocument) else KeptDocument(document)
+        steps = max(GROWTH * made, first_run(len(kept.text)))
+        while True:
+            answer = self._once(kept, form, wanted, run_of(most, steps))
+            if not is_short(answer, most) or is_left():
+                return answer
+            steps *= GROWTH
+
     def _once(
-        self, document: Union[bytes, KeptDocument], form: int, span: Span, steps: int
+        self, document: Union[bytes, KeptDocument], form: int, wanted: Wanted, run: Run
     ) -> Union[str, Exception]:
         """What the query answers in one run."""
         try:
@@ -161,11 +156,11 @@ class KeptQuery:
         except IndexError:
             asker = _Asker(self)
         if isinstance(document, KeptDocument):
-            status, size = document.asked_by(asker, form, span, steps), 0
+            status, size = document.asked_by(asker, form, wanted, run), 0
         else:
             size = len(document)
             status = library.jp_ask(
-                asker.handle, document, size, form, *span, steps, asker.text, asker.report
+                asker.handle, document, size, form, *wanted, run.limit, asker.text, asker.report
             )
         text = asker.text
         length = text.length
@@ -174,7 +169,10 @@ class KeptQuery:
         told = Report.from_buffer_copy(asker.report) if status else None
         if size <= LARGEST_KEPT and length <= LARGEST_KEPT and len(self._spare) < _MOST_SPARE:
             self._spare.append(asker)
+        else:
+            # An interrupt that came when it is dropped would be lost.
+            library.jp_clear(asker.handle)
         if told is None:
             return lent
         bytes_of = document.text if isinstance(document, KeptDocument) else document
-        return refusal(told, self.text, self.profile, lent, bytes_of) or lent
+        return refusal(told, self.text, self.profile, lent, bytes_of, run.most) or lent

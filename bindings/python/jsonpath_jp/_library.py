@@ -21,6 +21,16 @@ class Report(ctypes.Structure):
     ]
 
 
+class Limit(ctypes.Structure):
+    """The most that a call may do and give; of each 0 is no limit."""
+
+    _fields_ = [
+        ("steps", ctypes.c_uint64),
+        ("nodes", ctypes.c_uint64),
+        ("bytes", ctypes.c_uint64),
+    ]
+
+
 class Question(ctypes.Structure):
     _fields_ = [
         ("start", ctypes.c_size_t),
@@ -43,6 +53,20 @@ class Text(ctypes.Structure):
     _fields_ = [
         ("start", ctypes.c_size_t),
         ("length", ctypes.c_size_t),
+    ]
+
+
+class Cursor(ctypes.Structure):
+    """Where someone stands among the nodes of a kept document, at first before all of them."""
+
+    _fields_ = [
+        ("given", ctypes.c_uint64),
+        ("asked", ctypes.c_uint64),
+        # What is left of a page, which is nothing, since each is taken whole.
+        ("lines", Text),
+        ("steps", ctypes.c_uint64),
+        ("known", ctypes.c_uint64),
+        ("page", ctypes.c_uint64),
     ]
 
 
@@ -70,10 +94,11 @@ def _load() -> ctypes.CDLL:
     report = [ctypes.POINTER(Report)]
     room = [ctypes.POINTER(ctypes.c_char), ctypes.c_size_t, *report]
     number = [ctypes.c_uint32]
-    limit = [ctypes.c_uint64]
+    count = [ctypes.c_uint64]
+    limit = [ctypes.POINTER(Limit)]
     handle = [ctypes.POINTER(Handle)]
     many = [ctypes.POINTER(Question), ctypes.c_size_t]
-    lent = number + limit + limit + limit + [ctypes.POINTER(Text), *report]
+    lent = number + count + count + limit + [ctypes.POINTER(Text), *report]
     takes = {
         "version": [],
         "eval": text + text + number + number + limit + room,
@@ -86,6 +111,7 @@ def _load() -> ctypes.CDLL:
         "document_new": text + handle + room,
         "ask": handle + text + lent,
         "ask_document": handle + handle + lent,
+        "next_page": [ctypes.POINTER(Cursor)] + handle + handle + count + lent[-2:],
     }
     for name, words in takes.items():
         call = getattr(loaded, f"jp_{name}")

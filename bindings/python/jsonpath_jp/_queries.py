@@ -6,8 +6,9 @@ from typing import Any, Iterable, Iterator, List, Optional, Tuple, Union
 
 from . import _engine, _numbers
 from ._documents import Default, json_bytes
-from ._errors import DocumentError, QueryError, StepsUsedUp
-from ._kept import ALL, FIRST, KeptDocument, KeptQuery, Span
+from ._errors import DocumentError, Error, QueryError, QueryFault
+from ._kept import ALL, FIRST, Cursor, KeptDocument, KeptQuery, Span
+from ._limits import ANY, Most
 from ._paths import Step, steps_of
 
 
@@ -73,8 +74,8 @@ class Query:
     """A query that is accepted, read once and kept by the engine. It can be asked of any number of documents,
     from any threads at once. Queries are equal where their texts and their profiles are.
 
-    Each call takes a document, a limit of steps, and what `json.dumps` takes as `default`, for a document
-    that is a Python object.
+    Each call takes a document, a limit of steps, what `json.dumps` takes as `default`, for a document that is a
+    Python object, and the most nodes and bytes of an answer.
     """
 
     __slots__ = ("_kept", "__weakref__")
@@ -91,56 +92,67 @@ class Query:
         return self._kept.profile == _numbers.EXTENDED
 
     def find(
-        self, document: "Asked", limit: Optional[int] = None, default: Default = None
+        self, document: "Asked", limit: Optional[int] = None, default: Default = None,
+        *, max_nodes: Optional[int] = None, max_bytes: Optional[int] = None,
     ) -> List["Match"]:
         """The nodes that the query selects, in the order of RFC 9535; one that is selected twice stands
-        there twice. Raises `DocumentError`, and `StepsUsedUp` where there is a limit and the query needs
-        more steps."""
-        return _matches(self._asked(document, _numbers.BOTH, ALL, limit, default))
+        there twice. Raises `DocumentError`, and where there is a limit and the query goes beyond it
+        `StepsUsedUp`, `TooManyNodes` or `TooManyBytes`."""
+        return _matches(self._asked(document, _numbers.BOTH, ALL, default, limit, max_nodes, max_bytes))
 
     def find_one(
-        self, document: "Asked", limit: Optional[int] = None, default: Default = None
+        self, document: "Asked", limit: Optional[int] = None, default: Default = None,
+        *, max_nodes: Optional[int] = None, max_bytes: Optional[int] = None,
     ) -> Optional["Match"]:
         """The first of the nodes that `find` gives, or None. The evaluation ends with it."""
-        text = self._asked(document, _numbers.BOTH, FIRST, limit, default)
+        text = self._asked(document, _numbers.BOTH, FIRST, default, limit, max_nodes, max_bytes)
         return _match(text[:-1]) if text else None
 
     def finditer(
         self, document: "Asked", limit: Optional[int] = None, default: Default = None
     ) -> Iterator["Match"]:
         """The nodes that `find` gives, looked for as they are asked for: the first is found without the others,
-        and all take at most three times the steps of `find`. The document is read at once, and kept as long
-        as the iterator. `StepsUsedUp` is raised where the next nodes need more steps than the limit."""
-        steps = None if limit is None else _limit(limit)
+        in pages. The document is read at once, and kept as long as the iterator.
+        Where all nodes need more steps than the limit some of the first may be given, and then `StepsUsedUp`
+        is raised. There is no other limit."""
+        most, default = _most(limit, None, None), _default(default)
         kept = document._kept if isinstance(document, Document) else KeptDocument(json_bytes(document, default))
-        return _each(self._kept, kept, steps)
+        return _each(self._kept, kept, most)
 
     def paths(
-        self, document: "Asked", limit: Optional[int] = None, default: Default = None
+        self, document: "Asked", limit: Optional[int] = None, default: Default = None,
+        *, max_nodes: Optional[int] = None, max_bytes: Optional[int] = None,
     ) -> List[str]:
         """The normalized paths of the nodes that `find` gives."""
-        return _lines(self._asked(document, _numbers.PATHS, ALL, limit, default))
+        return _lines(self._asked(document, _numbers.PATHS, ALL, default, limit, max_nodes, max_bytes))
 
     def values(
-        self, document: "Asked", limit: Optional[int] = None, default: Default = None
+        self, document: "Asked", limit: Optional[int] = None, default: Default = None,
+        *, max_nodes: Optional[int] = None, max_bytes: Optional[int] = None,
     ) -> List[Any]:
         """The values of the nodes that `find` gives, as Python objects."""
-        return _values(self._asked(document, _numbers.VALUES, ALL, limit, default))
+        return _values(self._asked(document, _numbers.VALUES, ALL, default, limit, max_nodes, max_bytes))
 
     def exists(
-        self, document: "Asked", limit: Optional[int] = None, default: Default = None
+        self, document: "Asked", limit: Optional[int] = None, default: Default = None,
+        *, max_nodes: Optional[int] = None, max_bytes: Optional[int] = None,
     ) -> bool:
         """Whether the query selects a node. The evaluation ends with the first."""
-        return self._asked(document, _numbers.PATHS, FIRST, limit, default) != ""
+        return self._asked(document, _numbers.PATHS, FIRST, default, limit, max_nodes, max_bytes) != ""
 
     def _asked(
-        self, document: "Asked", form: int, span: Span, limit: Optional[int], default: Default
+        self, document: "Asked", form: int, span: Span, default: Default,
+        limit: Optional[int], max_nodes: Optional[int], max_bytes: Optional[int],
     ) -> str:
-        if limit is not None:
-            limit = _limit(limit)
+        if limit is max_nodes is max_bytes is None:
+            most = ANY
+        else:
+            most = _most(limit, max_nodes, max_bytes)
+        if default is not None:
+            default = _default(default)
         if isinstance(document, Document):
-            return self._kept.ask(document._kept, form, span, limit)
-        return self._kept.ask(json_bytes(document, default), form, span, limit)
+            return self._kept.ask(document._kept, form, span, most)
+        return self._kept.ask(json_bytes(document, default), form, span, most)
 
     def __str__(self) -> str:
         return self.text
@@ -171,7 +183,7 @@ class Document:
     __slots__ = ("_kept", "__weakref__")
 
     def __init__(self, document: "Asked", default: Default = None) -> None:
-        self._kept = KeptDocument(json_bytes(document, default))
+        self._kept = KeptDocument(json_bytes(document, _default(default)))
 
     @property
     def text(self) -> bytes:
@@ -179,16 +191,18 @@ class Document:
         return self._kept.text
 
     def find(
-        self, query: "Asking", extended: bool = False, limit: Optional[int] = None
+        self, query: "Asking", extended: bool = False, limit: Optional[int] = None,
+        *, max_nodes: Optional[int] = None, max_bytes: Optional[int] = None,
     ) -> List["Match"]:
-        """What `Query.find` gives. Raises `QueryError`, where a text is refused, and `StepsUsedUp`."""
-        return _compiled(query, extended).find(self, limit)
+        """What `Query.find` gives. Raises `QueryError`, where a text is refused, and the errors of its limits."""
+        return _compiled(query, extended).find(self, limit, max_nodes=max_nodes, max_bytes=max_bytes)
 
     def find_one(
-        self, query: "Asking", extended: bool = False, limit: Optional[int] = None
+        self, query: "Asking", extended: bool = False, limit: Optional[int] = None,
+        *, max_nodes: Optional[int] = None, max_bytes: Optional[int] = None,
     ) -> Optional["Match"]:
-        """What `Query.find_one` gives. Raises `QueryError`, where a text is refused, and `StepsUsedUp`."""
-        return _compiled(query, extended).find_one(self, limit)
+        """What `Query.find_one` gives. Raises `QueryError`, where a text is refused, and the errors of its limits."""
+        return _compiled(query, extended).find_one(self, limit, max_nodes=max_nodes, max_bytes=max_bytes)
 
     def finditer(
         self, query: "Asking", extended: bool = False, limit: Optional[int] = None
@@ -197,22 +211,25 @@ class Document:
         return _compiled(query, extended).finditer(self, limit)
 
     def paths(
-        self, query: "Asking", extended: bool = False, limit: Optional[int] = None
+        self, query: "Asking", extended: bool = False, limit: Optional[int] = None,
+        *, max_nodes: Optional[int] = None, max_bytes: Optional[int] = None,
     ) -> List[str]:
-        """What `Query.paths` gives. Raises `QueryError`, where a text is refused, and `StepsUsedUp`."""
-        return _compiled(query, extended).paths(self, limit)
+        """What `Query.paths` gives. Raises `QueryError`, where a text is refused, and the errors of its limits."""
+        return _compiled(query, extended).paths(self, limit, max_nodes=max_nodes, max_bytes=max_bytes)
 
     def values(
-        self, query: "Asking", extended: bool = False, limit: Optional[int] = None
+        self, query: "Asking", extended: bool = False, limit: Optional[int] = None,
+        *, max_nodes: Optional[int] = None, max_bytes: Optional[int] = None,
     ) -> List[Any]:
-        """What `Query.values` gives. Raises `QueryError`, where a text is refused, and `StepsUsedUp`."""
-        return _compiled(query, extended).values(self, limit)
+        """What `Query.values` gives. Raises `QueryError`, where a text is refused, and the errors of its limits."""
+        return _compiled(query, extended).values(self, limit, max_nodes=max_nodes, max_bytes=max_bytes)
 
     def exists(
-        self, query: "Asking", extended: bool = False, limit: Optional[int] = None
+        self, query: "Asking", extended: bool = False, limit: Optional[int] = None,
+        *, max_nodes: Optional[int] = None, max_bytes: Optional[int] = None,
     ) -> bool:
-        """What `Query.exists` gives. Raises `QueryError`, where a text is refused, and `StepsUsedUp`."""
-        return _compiled(query, extended).exists(self, limit)
+        """What `Query.exists` gives. Raises `QueryError`, where a text is refused, and the errors of its limits."""
+        return _compiled(query, extended).exists(self, limit, max_nodes=max_nodes, max_bytes=max_bytes)
 
     def __repr__(self) -> str:
         return f"<Document of {len(self.text)} bytes>"
@@ -242,11 +259,14 @@ def find(
     extended: bool = False,
     limit: Optional[int] = None,
     default: Default = None,
+    *,
+    max_nodes: Optional[int] = None,
+    max_bytes: Optional[int] = None,
 ) -> List[Match]:
     """The nodes that the query selects, in the order of RFC 9535; one that is selected twice stands
-    there twice. Raises `QueryError` or `DocumentError`, the query's first, and `StepsUsedUp` where
-    there is a limit and the query needs more steps."""
-    return _matches(_answer(query, document, _numbers.BOTH, extended, limit, default))
+    there twice. Raises `QueryError` or `DocumentError`, the query's first, and where there is a limit and
+    the query goes beyond it `StepsUsedUp`, `TooManyNodes` or `TooManyBytes`."""
+    return _matches(_answer(query, document, _numbers.BOTH, extended, default, limit, max_nodes, max_bytes))
 
 
 def find_one(
@@ -255,9 +275,13 @@ def find_one(
     extended: bool = False,
     limit: Optional[int] = None,
     default: Default = None,
+    *,
+    max_nodes: Optional[int] = None,
+    max_bytes: Optional[int] = None,
 ) -> Optional[Match]:
     """The first of the nodes that `find` gives, or None. The evaluation ends with it."""
-    return _new(query, document, extended).find_one(document, limit, default)
+    kept = _new(query, document, extended)
+    return kept.find_one(document, limit, default, max_nodes=max_nodes, max_bytes=max_bytes)
 
 
 def finditer(
@@ -277,18 +301,22 @@ def find_many(
     extended: bool = False,
     limit: Optional[int] = None,
     default: Default = None,
-) -> List[Union[List[Match], QueryError, StepsUsedUp]]:
-    """What `find` gives for each query, over one document, each with the whole limit. A query that is
-    refused, or needs more steps than the limit, has its error in the list, and ends nothing. Raises
+    *,
+    max_nodes: Optional[int] = None,
+    max_bytes: Optional[int] = None,
+) -> List[Union[List[Match], Error]]:
+    """What `find` gives for each query, over one document, each with the whole limits. A query that is
+    refused, or goes beyond a limit, has its error in the list, and ends nothing. Raises
     `DocumentError` where a query that is accepted is asked of what is no document, and where an object
     is none."""
     if isinstance(queries, (str, Query)):
         raise TypeError("find_many takes many queries, as a list, and not one: find(query, document)")
+    most, default = _most(limit, max_nodes, max_bytes), _default(default)
     if isinstance(document, Document):
-        return [_find_or_error(query, document, extended, limit) for query in queries]
+        return [_find_or_error(query, document, extended, *most) for query in queries]
     texts = [_query(query) for query in queries]
     answers = _engine.evaluate_many(
-        texts, json_bytes(document, default), _numbers.BOTH, _profile(extended), _limit(limit)
+        texts, json_bytes(document, default), _numbers.BOTH, _profile(extended), most
     )
     return [_matches(answer) if isinstance(answer, str) else answer for answer in answers]
 
@@ -299,9 +327,12 @@ def paths(
     extended: bool = False,
     limit: Optional[int] = None,
     default: Default = None,
+    *,
+    max_nodes: Optional[int] = None,
+    max_bytes: Optional[int] = None,
 ) -> List[str]:
     """The normalized paths of the nodes that `find` gives."""
-    return _lines(_answer(query, document, _numbers.PATHS, extended, limit, default))
+    return _lines(_answer(query, document, _numbers.PATHS, extended, default, limit, max_nodes, max_bytes))
 
 
 def values(
@@ -310,9 +341,12 @@ def values(
     extended: bool = False,
     limit: Optional[int] = None,
     default: Default = None,
+    *,
+    max_nodes: Optional[int] = None,
+    max_bytes: Optional[int] = None,
 ) -> List[Any]:
     """The values of the nodes that `find` gives, as Python objects."""
-    return _values(_answer(query, document, _numbers.VALUES, extended, limit, default))
+    return _values(_answer(query, document, _numbers.VALUES, extended, default, limit, max_nodes, max_bytes))
 
 
 def exists(
@@ -321,9 +355,13 @@ def exists(
     extended: bool = False,
     limit: Optional[int] = None,
     default: Default = None,
+    *,
+    max_nodes: Optional[int] = None,
+    max_bytes: Optional[int] = None,
 ) -> bool:
     """Whether the query selects a node. The evaluation ends with the first."""
-    return _new(query, document, extended).exists(document, limit, default)
+    kept = _new(query, document, extended)
+    return kept.exists(document, limit, default, max_nodes=max_nodes, max_bytes=max_bytes)
 
 
 def canonical(query: str, extended: bool = False) -> str:
@@ -338,14 +376,17 @@ def check(query: str, extended: bool = False) -> None:
 
 
 def _answer(
-    query: Asking, document: Asked, form: int, extended: bool, limit: Optional[int], default: Default
+    query: Asking, document: Asked, form: int, extended: bool, default: Default,
+    limit: Optional[int], max_nodes: Optional[int], max_bytes: Optional[int],
 ) -> str:
     """The lines of all nodes."""
     if isinstance(query, Query) or isinstance(document, Document):
-        return _compiled(query, extended)._asked(document, form, ALL, limit, default)
-    text, profile, steps = _query(query), _profile(extended), _limit(limit)
+        kept = _compiled(query, extended)
+        return kept._asked(document, form, ALL, default, limit, max_nodes, max_bytes)
+    most, text, profile = _most(limit, max_nodes, max_bytes), _query(query), _profile(extended)
+    default = _default(default)
     try:
-        return _engine.evaluate(text, json_bytes(document, default), form, profile, steps)
+        return _engine.evaluate(text, json_bytes(document, default), form, profile, most)
     except DocumentError:
         # Of an object that is no JSON the engine was not asked, and the query is told of first.
         _engine.check(text, profile)
@@ -364,11 +405,11 @@ def _in_order(fault: QueryError, document: Asked) -> QueryError:
 
 
 def _find_or_error(
-    query: Asking, document: Document, extended: bool, limit: Optional[int]
-) -> Union[List[Match], QueryError, StepsUsedUp]:
+    query: Asking, document: Document, extended: bool, steps: Optional[int], nodes: Optional[int], size: Optional[int]
+) -> Union[List[Match], Error]:
     try:
-        return document.find(query, extended, limit)
-    except (QueryError, StepsUsedUp) as fault:
+        return document.find(query, extended, steps, max_nodes=nodes, max_bytes=size)
+    except QueryFault as fault:
         return fault
 
 
@@ -412,16 +453,13 @@ def _lines(text: str) -> List[str]:
     return text.split("\n")[:-1]
 
 
-def _each(query: KeptQuery, document: KeptDocument, limit: Optional[int]) -> Iterator[Match]:
-    """The nodes, in pages of 1, 2, 4 and so on. Each page is one more than all before it, which it passes over, so
-    that all of them cost three walks at most."""
-    passed, is_full = 0, True
-    while is_full:
-        count = passed + 1
-        lines = query.ask(document, _numbers.BOTH, (passed, count), limit)
-        passed += count
+def _each(query: KeptQuery, document: KeptDocument, most: Most) -> Iterator[Match]:
+    """The nodes, page by page."""
+    cursor = Cursor()
+    lines = query.ask(document, _numbers.BOTH, cursor, most)
+    while lines:
         yield from map(_match, _each_line(lines))
-        is_full = lines.count("\n") == count
+        lines = query.ask(document, _numbers.BOTH, cursor, most)
 
 
 def _each_line(text: str) -> Iterator[str]:
@@ -450,13 +488,26 @@ def _profile(extended: bool) -> int:
     return _numbers.EXTENDED if extended else _numbers.STANDARD
 
 
-def _limit(limit: Optional[int]) -> Optional[int]:
+def _most(limit: Optional[int], max_nodes: Optional[int], max_bytes: Optional[int]) -> Most:
+    if limit is max_nodes is max_bytes is None:
+        return ANY
+    return Most(_number(limit, "steps"), _number(max_nodes, "nodes"), _number(max_bytes, "bytes"))
+
+
+def _number(limit: Optional[int], what: str) -> Optional[int]:
     if limit is None:
         return None
     try:
         number = operator.index(limit)
     except TypeError:
-        raise TypeError(f"a limit is a number of steps, and no {type(limit).__name__}") from None
+        raise TypeError(f"a limit is a number of {what}, and no {type(limit).__name__}") from None
     if not 0 < number < 1 << 64:
-        raise ValueError("a limit is a number of steps, from 1 to 2**64 - 1")
+        raise ValueError(f"a limit is a number of {what}, from 1 to 2**64 - 1")
     return number
+
+
+def _default(default: Default) -> Default:
+    if default is not None and not callable(default):
+        name = type(default).__name__
+        raise TypeError(f"default is a function for objects of other types, as json.dumps has it, and no {name}")
+    return default

@@ -6,6 +6,10 @@ from typing import Any, Callable, Optional, Tuple
 # The stack of a thread on which each call has room; Python's own frames are there too.
 _STACK = 2 << 20
 
+# How long a caller waits before it looks again whether a signal came, in seconds. One that comes just before the
+# waiting begins would else be seen at its end.
+_A_WHILE = 0.1
+
 # The size of a stack is one for all threads that are started. Freeing a handle may start one meanwhile,
 # on the very thread that holds this.
 _starting = threading.RLock()
@@ -55,7 +59,8 @@ def on_a_thread(function: Callable[..., Any], *arguments: Any) -> Any:
     thread = _Roomy(function, arguments)
     try:
         _start(thread)
-        thread.join()
+        while thread.is_alive():
+            thread.join(_A_WHILE)
     except BaseException:
         thread.is_left = True
         raise

@@ -14,7 +14,8 @@ import unittest
 from unittest import mock
 
 import jsonpath_jp as jp
-from jsonpath_jp import _calls, _engine, _kept, _library
+from jsonpath_jp import _calls, _engine, _library
+from runs import first_runs
 
 STORE = {
     "store": {
@@ -61,9 +62,23 @@ class Find(unittest.TestCase):
         self.assertEqual(caught.exception.path, "$[1]")
 
     def test_whole_numbers_are_exact(self):
-        text = '{"a":[18446744073709551615,-9223372036854775808,9007199254740993]}'
-        expected = [18446744073709551615, -9223372036854775808, 9007199254740993]
-        self.assertEqual(jp.values("$.a[*]", text), expected)
+        doubles = [2**53 - 1, 2**53, 2**53 + 1, 2**60, 2**63 - 1]
+        for whole in [*doubles, *(-it for it in doubles), 2**63, -(2**63), 2**64 - 1]:
+            for document in (f"[{whole}]", [whole], jp.Document([whole])):
+                with self.subTest(whole=whole, document=repr(document)):
+                    self.assertEqual(jp.find_one("$[0]", document).text, str(whole))
+                    self.assertEqual(jp.values("$[0]", document), [whole])
+                    self.assertEqual(jp.values(f"$[?@=={whole}]", document), [whole])
+                    self.assertEqual(jp.values(f"$[?@!={whole}]", document), [])
+
+    def test_whole_numbers_beyond_64_bits(self):
+        for whole in (2**64, -(2**63) - 1, 10**30):
+            for document in (f"[0,{whole}]", [0, whole]):
+                with self.assertRaises(jp.DocumentError) as caught:
+                    jp.find("$", document)
+                fault = caught.exception
+                self.assertEqual((fault.kind, fault.path, fault.column), ("NotWhole", "$[1]", 4))
+                self.assertEqual(fault.sentence, "This number is outside -(2^63) to (2^64)-1.")
 
     def test_documents_as_text_bytes_and_objects(self):
         for document in ['{"é":[1]}', '{"é":[1]}'.encode(), bytearray('{"é":[1]}'.encode()), {"é": [1]}]:
@@ -220,7 +235,7 @@ class Refusals(unittest.TestCase):
             document = ctypes.cast(ctypes.addressof(first), ctypes.c_char_p)
             for text in (b"$", b"$..a"):
                 fault = _calls.answer_of(
-                    _library.library.jp_eval, "$", 0, text, len(text), document, size, 0, 0, 0
+                    _library.library.jp_eval, "$", 0, text, len(text), document, size, 0, 0, _library.Limit()
                 )
                 self.assertIsInstance(fault, jp.DocumentError)
                 self.assertEqual((fault.kind, fault.path, fault.offset), ("DocumentTooLarge", None, None))
@@ -275,7 +290,7 @@ class Limits(unittest.TestCase):
         document = list(range(1000))
         queries = ["$..*", "$[0]", "$[?@<10]"]
         expected = jp.find_many(queries, document)
-        with mock.patch.object(_kept, "FIRST_RUN", 3), mock.patch.object(_engine, "_LEAST_RUN", 1):
+        with first_runs(3), mock.patch.object(_engine, "_LEAST_RUN", 1):
             self.assertEqual(jp.find_many(queries, document), expected)
             self.assertEqual([jp.find(query, document) for query in queries], expected)
             self.assertEqual(jp.find("$..*", document, limit=5000), expected[0])
@@ -364,7 +379,7 @@ class Threads(unittest.TestCase):
 
     def test_little_stack_by_handles(self):
         document = list(range(1000))
-        with mock.patch.object(_kept, "FIRST_RUN", 3), mock.patch.object(_engine, "_LEAST_RUN", 1):
+        with first_runs(3), mock.patch.object(_engine, "_LEAST_RUN", 1):
             for query in ("$..*", self.DEEP):
                 expected = jp.find_many([query, "$[0]"], document)
                 given = self.on_little_stack(128 << 10, jp.find_many, [query, "$[0]"], document)

@@ -1,19 +1,18 @@
 """Queries and documents that are kept. Expected values are by hand."""
+import contextlib
 import copy
 import gc
 import json
 import os
 import pickle
 import signal
-import subprocess
-import sys
 import threading
-import time
 import unittest
 from unittest import mock
 
 import jsonpath_jp as jp
 from jsonpath_jp import _kept, _queries
+from runs import first_runs
 
 STORE = {
     "book": [
@@ -33,6 +32,20 @@ TITLES = ["Sayings", "Moby Dick"]
 def documents():
     """The same document in each way in which one is given."""
     return [TEXT, TEXT.encode(), bytearray(TEXT.encode()), memoryview(TEXT.encode()), STORE, jp.Document(STORE)]
+
+
+@contextlib.contextmanager
+def steps_counted(name):
+    """The steps that the calls of that name report, one after another."""
+    call, counted = getattr(_kept.library, name), []
+
+    def made(*arguments):
+        status = call(*arguments)
+        counted.append(arguments[-1].steps)
+        return status
+
+    with mock.patch.object(_kept.library, name, made):
+        yield counted
 
 
 class Queries(unittest.TestCase):
@@ -112,6 +125,17 @@ class Queries(unittest.TestCase):
         with self.assertRaises(jp.StepsUsedUp):
             list(each)
         self.assertEqual(list(each), [])
+
+    def test_finditer_takes_three_times_the_steps_of_find_at_most(self):
+        ends = {"early": (0, 20), "late": (1800, 2000), "rare": (99, 2000, 100), "none": (0, 0), "all": (0, 2000)}
+        for where, nodes in ends.items():
+            hits = set(range(*nodes))
+            document = jp.Document([int(at in hits) for at in range(2000)])
+            with self.subTest(where=where):
+                with steps_counted("jp_ask_document") as once, steps_counted("jp_next_page") as each:
+                    self.assertEqual(document.find("$[?@==1]"), list(document.finditer("$[?@==1]")))
+                self.assertLessEqual(sum(once), sum(each))
+                self.assertLessEqual(sum(each), 3 * sum(once))
 
     def test_what_finditer_keeps_is_freed(self):
         freed = []
@@ -233,7 +257,7 @@ class Runs(unittest.TestCase):
         for document in (numbers, jp.Document(numbers)):
             for text, count in (("$..*", 1000), ("$[?@<10]", 10)):
                 query = jp.compile(text)
-                with mock.patch.object(_kept, "FIRST_RUN", 3):
+                with first_runs(3):
                     self.assertEqual(query.values(document), numbers[:count])
                     self.assertEqual(query.find_one(document).value, 0)
                     self.assertEqual(query.values(document, limit=1 << 20), numbers[:count])
@@ -242,54 +266,32 @@ class Runs(unittest.TestCase):
                             query.find(document, limit=limit)
                         self.assertEqual(caught.exception.limit, limit)
 
+    def test_all_runs_together(self):
+        query = jp.compile("$..*")
+        for count in (2, 7, 30, 100, 1000, 3000):
+            document = jp.Document(list(range(count)))
+            with steps_counted("jp_ask_document") as once:
+                query.find(document)
+            with first_runs(3), steps_counted("jp_ask_document") as each:
+                query.find(document)
+            self.assertLess(1, len(each))
+            self.assertLess(sum(each), 2.5 * sum(once))
+
+    def test_what_is_left_behind_ends_with_its_run(self):
+        document = jp.Document(list(range(1000)))
+        with mock.patch.object(_kept, "is_left", return_value=True), first_runs(3):
+            with steps_counted("jp_ask_document") as each, self.assertRaises(jp.StepsUsedUp):
+                document.find("$..*")
+        self.assertEqual(each, [3, 12])
+
     def test_where_no_thread_can_be_started(self):
         numbers = list(range(1000))
         no_thread = mock.patch.object(threading.Thread, "start", side_effect=RuntimeError)
-        with no_thread as start, mock.patch.object(_kept, "FIRST_RUN", 3):
+        with no_thread as start, first_runs(3):
             for document in (numbers, jp.Document(numbers)):
                 self.assertEqual(jp.compile("$[?@<3]").values(document), [0, 1, 2])
                 self.assertEqual(jp.values("$[?@<3]", document), [0, 1, 2])
             self.assertEqual(start.call_count, 4)
-
-    def interrupted(self, call, wait):
-        """What a program says whose call is interrupted after so many seconds, and how long that took."""
-        # A run in the background of a shell ignores the signal, and so would the child.
-        script = (
-            "import signal\n"
-            "signal.signal(signal.SIGINT, signal.default_int_handler)\n"
-            "import jsonpath_jp as jp\n"
-            "text = '[' * 100 + ']' * 100\n"
-            "query, document = jp.compile('$' + '..*' * 20 + '.x'), jp.Document(text)\n"
-            "print('begun', flush=True)\n"
-            "try:\n"
-            f"    {call}\n"
-            "except KeyboardInterrupt:\n"
-            "    print('ended', flush=True)\n"
-            "print(len(query.find('[[1]]')), len(document.find('$..*')), flush=True)\n"
-        )
-        how = {"stdout": subprocess.PIPE, "stderr": subprocess.PIPE, "text": True}
-        with subprocess.Popen([sys.executable, "-c", script], **how) as asking:
-            self.assertEqual(asking.stdout.readline(), "begun\n")
-            time.sleep(wait)
-            start = time.monotonic()
-            asking.send_signal(signal.SIGINT)
-            try:
-                self.assertEqual(asking.stdout.readline(), "ended\n")
-                took = time.monotonic() - start
-                said = asking.stdout.read(), asking.stderr.read()
-            finally:
-                asking.kill()
-        self.assertEqual(asking.returncode, 0)
-        return said, took
-
-    def test_ctrl_c(self):
-        for call in ("query.find(text)", "document.find(query)"):
-            for wait in (0.05, 2):
-                with self.subTest(call=call, wait=wait):
-                    said, took = self.interrupted(call, wait)
-                    # The call that follows does not wait either, and nothing is said at the end.
-                    self.assertEqual(said, ("0 99\n", ""))
-                    self.assertLess(took, 2)
 
 
 class Threads(unittest.TestCase):
@@ -342,7 +344,7 @@ class Threads(unittest.TestCase):
             try:
                 query, kept = jp.compile(deep), jp.Document(nested)
                 for document in (nested, kept):
-                    with mock.patch.object(_kept, "FIRST_RUN", 3):
+                    with first_runs(3):
                         self.assertEqual(query.paths(document), expected)
                     self.assertEqual(query.paths(document), expected)
                 del query, kept

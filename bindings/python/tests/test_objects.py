@@ -2,6 +2,7 @@
 import collections
 import decimal
 import enum
+import sys
 import unittest
 
 import jsonpath_jp as jp
@@ -89,14 +90,74 @@ class Objects(unittest.TestCase):
         document = []
         for _ in range(100_000):
             document = [document]
-        with self.assertRaises(jp.DocumentError) as caught:
-            jp.find("$", document)
-        self.assertEqual((caught.exception.kind, caught.exception.reason), ("NotJson", "TooManyLevels"))
+        self.assert_too_deep(document)
         while document:
             document = document[0]
-        document.append(document)
-        with self.assertRaisesRegex(ValueError, "Circular"):
-            jp.find("$", document)
+        # Keys of two kinds are not sorted.
+        document = {1: 0, "a": 0}
+        for _ in range(126):
+            document = [document]
+        self.assertEqual(jp.paths("$..a", document), ["$" + "[0]" * 126 + "['a']"])
+        self.assert_too_deep([document])
+
+    def assert_too_deep(self, document, **words):
+        with self.assertRaises(jp.DocumentError) as caught:
+            jp.find("$", document, **words)
+        self.assertEqual((caught.exception.kind, caught.exception.reason), ("NotJson", "TooManyLevels"))
+
+    def test_objects_that_stand_inside_themselves(self):
+        round_list, round_dict, many = [0], {}, [1]
+        round_list.append({"a": round_list})
+        round_dict["b"] = (round_dict,)
+        many.extend([many] * 200)
+        for document, path, name in [
+            (round_list, "$[1]['a']", "list"),
+            (round_dict, "$['b'][0]", "dict"),
+            ({"c": many}, "$['c'][1]", "list"),
+        ]:
+            with self.assertRaises(jp.Error) as caught:
+                jp.find("$", document)
+            fault = caught.exception
+            self.assertEqual((type(fault), fault.kind, fault.path), (jp.DocumentError, "NotJson", path))
+            self.assertEqual(fault.sentence, f"A {name} stands inside itself.")
+        with self.assertRaisesRegex(jp.DocumentError, "A set stands inside itself"):
+            jp.find("$", [{1}], default=lambda it: [it])
+        self.assert_too_deep([{1}], default=lambda it: set(it))
+        lists = [[] for _ in range(200)]
+        for above, below in zip(lists, lists[1:] + lists[:1]):
+            above.extend([below, below])
+        self.assert_too_deep(lists)
+        # What stands there twice stands not inside itself.
+        twice = [1]
+        self.assertEqual(jp.values("$", {1: twice, "a": [twice, twice]}), [{"1": [1], "a": [[1], [1]]}])
+
+    @unittest.skipUnless(hasattr(sys, "set_int_max_str_digits"), "this Python writes any number of digits")
+    def test_numbers_of_more_digits_than_python_writes(self):
+        for document, path, sentence in [
+            ([0, 10**5000], "$[1]", "This number is too large for a float of 64 bits."),
+            ({"a": -(10**5000)}, "$['a']", "This number is too large for a float of 64 bits."),
+            ([{10**5000: 1}], "$[0]", "A key has more digits than Python writes."),
+        ]:
+            with self.assertRaises(jp.Error) as caught:
+                jp.find("$", document)
+            fault = caught.exception
+            self.assertEqual((type(fault), fault.kind, fault.path), (jp.DocumentError, "NotJson", path))
+            self.assertEqual(fault.sentence, sentence)
+        for number in (10**4299, 10**5000):
+            with self.assertRaises(jp.DocumentError) as caught:
+                jp.find("$", [number])
+            self.assertEqual(caught.exception.reason, "BeyondFloat")
+
+    def test_halves_of_surrogate_pairs_are_printed(self):
+        for call in (lambda: jp.check("$.\ud800"), lambda: jp.find("$", {"\udfff": float("nan")}),
+                     lambda: jp.find("$", {"\udfff": {1}}), lambda: jp.find("$", {"\udfff": {(): 1}})):
+            with self.assertRaises((jp.Error, TypeError)) as caught:
+                call()
+            self.assertIn("\ufffd", str(caught.exception).encode().decode())
+        with self.assertRaises(jp.QueryError) as caught:
+            jp.check("$.\ud800")
+        self.assertEqual(str(caught.exception), "query refused: Syntax at 2\n$.\ufffd\n  ^")
+        self.assertEqual(caught.exception.query, "$.\ud800")
 
 
 class Arguments(unittest.TestCase):
@@ -117,6 +178,20 @@ class Arguments(unittest.TestCase):
         with self.assertRaises(jp.QueryError) as caught:
             jp.find("$[", "$")
         self.assertNotIn("comes before", caught.exception.sentence)
+
+    def test_a_default_that_is_no_function(self):
+        kept, query = jp.Document("[]"), jp.compile("$.a")
+        calls = [jp.find, jp.find_one, jp.finditer, jp.paths, jp.values, jp.exists]
+        own = [query.find, query.find_one, query.finditer, query.paths, query.values, query.exists]
+        made = [lambda it, call=call, asked=asked, **words: call(asked, it, **words)
+                for call in calls for asked in ("$.a", query)]
+        made += [*own, jp.Document, lambda it, **words: jp.find_many(["$.a"], it, **words)]
+        for call in made:
+            for document in ("{}", {}, kept):
+                with self.assertRaises(TypeError) as caught:
+                    call(document, default="none")
+                sentence = "default is a function for objects of other types, as json.dumps has it, and no str"
+                self.assertEqual(str(caught.exception), sentence)
 
     def test_the_query_first(self):
         for call in (jp.find, jp.find_one, jp.finditer, jp.paths, jp.values, jp.exists):

@@ -15,6 +15,10 @@ pub enum Error {
     Document(Box<DocumentError>),
     /// The query needs more steps over the document than its limit, which is this.
     StepsUsedUp(u64),
+    /// The query selects more nodes of the document than it may give, which is this.
+    TooManyNodes(u64),
+    /// The answer has more bytes than it may have, which is this.
+    TooManyBytes(u64),
     /// Memory ran out.
     NoMemory,
     /// The thread has too little stack left, and no other could be started.
@@ -178,6 +182,12 @@ impl fmt::Display for Error {
             Error::Document(fault) => fault.fmt(f),
             Error::StepsUsedUp(limit) => {
                 write!(f, "steps used up: the query needs more than {limit}")
+            }
+            Error::TooManyNodes(limit) => {
+                write!(f, "too many nodes: the query selects more than {limit}")
+            }
+            Error::TooManyBytes(limit) => {
+                write!(f, "too many bytes: the answer has more than {limit}")
             }
             Error::NoMemory => f.write_str("jp ran out of memory"),
             Error::NoStack => {

@@ -3,7 +3,8 @@
 use crate::document::Document;
 use crate::error::Error;
 use crate::nodes::Node;
-use crate::query::{Query, Span};
+use crate::query::Query;
+use crate::raw::Cursor;
 use std::fmt;
 use std::iter::FusedIterator;
 
@@ -17,9 +18,10 @@ pub struct OwnedNode {
 
 /// The nodes that a query selects, looked for as they are asked for: the first is found without the others.
 ///
-/// It asks for them in pages of 1, 2, 4 and so on. Each is one more than all before it, which it passes over; so all
-/// of them take at most three times the steps of [`Query::find`]. Where the query has a limit each page has the whole
-/// of it. After an error there are no more.
+/// It asks for them in pages, in which all of them take no more steps than jp's page EMBED says (One node after
+/// another). Where the query has a limit, no evaluation makes more; where all nodes need more, some of the first may
+/// be given, and then the error. After an error there are no more. There is no limit of nodes or bytes, since whoever goes
+/// through them can count them.
 ///
 /// ```
 /// use jsonpath_jp::Query;
@@ -36,8 +38,7 @@ pub struct FindIter<'q> {
     /// The lines of a page, and where those begin that are left of it.
     page: String,
     at: usize,
-    /// How many nodes stand before the next page.
-    passed: u64,
+    cursor: Cursor,
     is_last: bool,
 }
 
@@ -79,7 +80,7 @@ impl<'q> FindIter<'q> {
             document,
             page: String::new(),
             at: 0,
-            passed: 0,
+            cursor: Cursor::default(),
             is_last: false,
         }
     }
@@ -90,17 +91,11 @@ impl<'q> FindIter<'q> {
             Asked::Lent(document) => document,
             Asked::Own(document) => document,
         };
-        let span = Span {
-            from: self.passed,
-            count: self.passed + 1,
-        };
-        self.is_last = true;
-        self.page = self.query.both_in(span, document)?;
         self.at = 0;
-        self.passed += span.count;
-        // A page with fewer nodes than were asked for is the last.
-        let lines = self.page.bytes().filter(|&byte| byte == b'\n').count();
-        self.is_last = (lines as u64) < span.count;
+        self.page.clear();
+        self.is_last = true;
+        self.page = self.query.next_page(&mut self.cursor, document)?;
+        self.is_last = self.page.is_empty();
         Ok(())
     }
 }
@@ -111,8 +106,6 @@ impl Iterator for FindIter<'_> {
     fn next(&mut self) -> Option<Self::Item> {
         if self.at == self.page.len() && !self.is_last {
             if let Err(fault) = self.turn_page() {
-                self.page.clear();
-                self.at = 0;
                 return Some(Err(fault));
             }
         }

@@ -2,12 +2,13 @@
 
 use crate::error::Error;
 use crate::nodes::Nodes;
-use crate::numbers::form;
-use crate::query::{answer, steps, Profile};
-use crate::raw::{self, Question};
+use crate::numbers::{form, status};
+use crate::query::{answer, Profile};
+use crate::raw::{self, Limit, Question};
 use std::num::NonZeroU64;
 
-/// Many queries, to be asked of a document that is read once for all of them.
+/// Many queries, to be asked of a document that is read once for all of them, and once more where what they select
+/// takes more than 4 KiB.
 ///
 /// One that is refused stops no other:
 ///
@@ -25,7 +26,7 @@ pub struct Queries {
     /// Where each ends in the text.
     ends: Vec<usize>,
     profile: Profile,
-    limit: Option<NonZeroU64>,
+    limit: Limit,
 }
 
 impl Queries {
@@ -52,18 +53,45 @@ impl Queries {
 
     /// The queries with a limit of steps, the whole of it for each.
     #[must_use]
-    pub fn with_limit(self, steps: NonZeroU64) -> Self {
-        Queries {
-            limit: Some(steps),
-            ..self
-        }
+    pub fn with_limit(mut self, steps: NonZeroU64) -> Self {
+        self.limit.steps = steps.get();
+        self
     }
 
-    /// What each selects in the JSON text, or its error.
+    /// The queries with a most of nodes, as many for each.
+    #[must_use]
+    pub fn with_max_nodes(mut self, nodes: NonZeroU64) -> Self {
+        self.limit.nodes = nodes.get();
+        self
+    }
+
+    /// The queries with a most of bytes of an answer, as many for each.
+    #[must_use]
+    pub fn with_max_bytes(mut self, bytes: NonZeroU64) -> Self {
+        self.limit.bytes = bytes.get();
+        self
+    }
+
+    /// What each selects in the JSON text, or its error, in the order of the queries.
     ///
     /// # Errors
     ///
-    /// Of each query [`Error::Query`] where it is refused, and those of [`Query::find`](crate::Query::find).
+    /// Each query has its own: [`Error::Query`] where it is refused, whatever the bytes are; else [`Error::Document`]
+    /// where they are no document, [`Error::StepsUsedUp`], [`Error::TooManyNodes`] and [`Error::TooManyBytes`] where
+    /// there is such a limit and the query goes beyond it, [`Error::NoMemory`] and [`Error::NoStack`].
+    ///
+    /// A query that names one location makes no steps in [`Query::find`](crate::Query::find), and here a few for each
+    /// name or index:
+    ///
+    /// ```
+    /// use jsonpath_jp::{Error, Queries, Query};
+    ///
+    /// let limit = 1.try_into().unwrap();
+    /// assert_eq!(Query::parse("$[1]")?.with_limit(limit).find(b"[1,2]")?.len(), 1);
+    /// let answers = Queries::new(["$[1]"]).with_limit(limit).find(b"[1,2]");
+    /// assert_eq!(answers, [Err(Error::StepsUsedUp(1))]);
+    /// # Ok::<(), Error>(())
+    /// ```
     pub fn find(&self, document: &[u8]) -> Vec<Result<Nodes, Error>> {
         let mut questions: Vec<_> = self.spans().map(question).collect();
         let written = raw::eval_many(
@@ -72,21 +100,27 @@ impl Queries {
             document,
             form::BOTH,
             self.profile.number(),
-            steps(self.limit),
+            self.limit,
         );
         let mut rest = written.as_str();
+        // Why the document is refused is asked for once, since that reads it again.
+        let mut refusal: Option<Error> = None;
         let mut answers = Vec::with_capacity(questions.len());
         for (question, (start, end)) in questions.iter().zip(self.spans()) {
             let (text, after) = rest.split_at(question.report.length);
             rest = after;
-            let query = &self.text[start..end];
-            let answer = answer(
-                &question.report,
-                text.to_owned(),
-                query,
-                self.profile,
-                document,
-            );
+            let report = &question.report;
+            let answer = match &refusal {
+                Some(fault) if report.status == status::DOCUMENT_REFUSED => Err(fault.clone()),
+                _ => {
+                    let query = &self.text[start..end];
+                    let text = text.to_owned();
+                    answer(report, text, query, self.profile, document, self.limit)
+                }
+            };
+            if let Err(fault @ Error::Document(_)) = &answer {
+                refusal.get_or_insert_with(|| fault.clone());
+            }
             answers.push(answer.map(Nodes::of_lines));
         }
         answers

@@ -4,8 +4,8 @@ use crate::document::Document;
 use crate::error::Error;
 use crate::iter::{Asked, FindIter};
 use crate::nodes::Nodes;
-use crate::numbers::{form, profile, status, NO_LIMIT};
-use crate::raw::{self, Handle, Report};
+use crate::numbers::{form, profile, status};
+use crate::raw::{self, Cursor, Handle, Limit, Report};
 use std::fmt;
 use std::num::NonZeroU64;
 use std::str::FromStr;
@@ -54,7 +54,7 @@ impl Profile {
 pub struct Query {
     text: String,
     profile: Profile,
-    limit: Option<NonZeroU64>,
+    limit: Limit,
     handle: Mutex<Handle>,
 }
 
@@ -97,7 +97,7 @@ impl Query {
             status::DONE => Ok(Query {
                 text: text.to_owned(),
                 profile,
-                limit: None,
+                limit: Limit::default(),
                 handle: Mutex::new(handle),
             }),
             _ => Err(Error::of_query(&report, text, profile)),
@@ -118,11 +118,47 @@ impl Query {
     /// # Ok::<(), Error>(())
     /// ```
     #[must_use]
-    pub fn with_limit(self, steps: NonZeroU64) -> Self {
-        Query {
-            limit: Some(steps),
-            ..self
-        }
+    pub fn with_limit(mut self, steps: NonZeroU64) -> Self {
+        self.limit.steps = steps.get();
+        self
+    }
+
+    /// The query with a most of nodes: where it selects more of a document the answer is [`Error::TooManyNodes`].
+    /// Nodes that are looked for [one after another](Self::find_iter) are not counted.
+    ///
+    /// ```
+    /// use jsonpath_jp::{Error, Query};
+    ///
+    /// let query = Query::parse("$[*]")?.with_max_nodes(2.try_into().unwrap());
+    /// assert_eq!(query.find(b"[1,2]")?.len(), 2);
+    /// assert_eq!(query.find(b"[1,2,3]"), Err(Error::TooManyNodes(2)));
+    /// # Ok::<(), Error>(())
+    /// ```
+    #[must_use]
+    pub fn with_max_nodes(mut self, nodes: NonZeroU64) -> Self {
+        self.limit.nodes = nodes.get();
+        self
+    }
+
+    /// The query with a most of bytes: where an answer has more it is [`Error::TooManyBytes`]. The bytes are those of
+    /// a line for each node, which is its path, a tab, its value and a newline; of [`exists`](Self::exists) the path
+    /// and a newline. Nodes that are looked for [one after another](Self::find_iter) are not counted.
+    ///
+    /// A short query can have an answer of many times the bytes of the document, so whoever asks queries of
+    /// strangers gives this, too.
+    ///
+    /// ```
+    /// use jsonpath_jp::{Error, Query};
+    ///
+    /// let query = Query::parse("$[0,0]")?.with_max_bytes(14.try_into().unwrap());
+    /// assert_eq!(query.find(b"[1]")?.len(), 2);
+    /// assert_eq!(query.find(b"[12]"), Err(Error::TooManyBytes(14)));
+    /// # Ok::<(), Error>(())
+    /// ```
+    #[must_use]
+    pub fn with_max_bytes(mut self, bytes: NonZeroU64) -> Self {
+        self.limit.bytes = bytes.get();
+        self
     }
 
     /// The query as it was given.
@@ -137,7 +173,17 @@ impl Query {
 
     /// How many steps it may make over a document, where there is a limit.
     pub fn limit(&self) -> Option<NonZeroU64> {
-        self.limit
+        NonZeroU64::new(self.limit.steps)
+    }
+
+    /// How many nodes it may give of a document, where there is a limit.
+    pub fn max_nodes(&self) -> Option<NonZeroU64> {
+        NonZeroU64::new(self.limit.nodes)
+    }
+
+    /// How many bytes an answer may have, where there is a limit.
+    pub fn max_bytes(&self) -> Option<NonZeroU64> {
+        NonZeroU64::new(self.limit.bytes)
     }
 
     /// The nodes that it selects in a JSON text. The memory that this takes stays with the query for the next
@@ -145,8 +191,9 @@ impl Query {
     ///
     /// # Errors
     ///
-    /// [`Error::Document`] where the bytes are no document, [`Error::StepsUsedUp`] where there is a limit and
-    /// the query needs more steps, [`Error::NoMemory`] and [`Error::NoStack`].
+    /// [`Error::Document`] where the bytes are no document, [`Error::StepsUsedUp`], [`Error::TooManyNodes`] and
+    /// [`Error::TooManyBytes`] where there is such a limit and the query goes beyond it, [`Error::NoMemory`] and
+    /// [`Error::NoStack`].
     pub fn find(&self, document: &[u8]) -> Result<Nodes, Error> {
         self.lines(form::BOTH, ALL, document).map(Nodes::of_lines)
     }
@@ -189,12 +236,12 @@ impl Query {
     }
 
     /// The nodes that it selects in a JSON text, one after another, looked for as they are asked for. The document is
-    /// read at once, and kept as long as the iterator.
+    /// read at once, and kept as long as the iterator. Of the limits that of steps alone holds.
     ///
     /// # Errors
     ///
     /// [`Error::Document`] where the bytes are no document, [`Error::NoMemory`] and [`Error::NoStack`]. The iterator
-    /// has the others, those of [`find_in`](Self::find_in).
+    /// has [`Error::StepsUsedUp`], too.
     pub fn find_iter(&self, document: &[u8]) -> Result<FindIter<'_>, Error> {
         let document = Document::parse(document)?;
         Ok(FindIter::new(self, Asked::Own(document)))
@@ -245,18 +292,16 @@ impl Query {
     /// The lines of the nodes asked for in a JSON text.
     fn lines(&self, form: u32, span: Span, document: &[u8]) -> Result<String, Error> {
         let (report, text) = match self.handle.try_lock() {
-            Ok(mut query) => query.ask(document, form, span, steps(self.limit)),
+            Ok(mut query) => query.ask(document, form, span, self.limit),
             Err(TryLockError::Poisoned(query)) => {
-                query
-                    .into_inner()
-                    .ask(document, form, span, steps(self.limit))
+                query.into_inner().ask(document, form, span, self.limit)
             }
             // Another thread asks the query, which is read anew so that none waits for it.
             Err(TryLockError::WouldBlock) => {
                 let mut query = Handle::empty();
                 let report = query.keep_query(self.text.as_bytes(), self.profile.number());
                 match report.status {
-                    status::DONE => query.ask(document, form, span, steps(self.limit)),
+                    status::DONE => query.ask(document, form, span, self.limit),
                     _ => (report, String::new()),
                 }
             }
@@ -268,25 +313,25 @@ impl Query {
     fn lines_in(&self, form: u32, span: Span, document: &Document) -> Result<String, Error> {
         // Each call locks a query before a document, so that none waits for another's.
         let mut query = self.handle.lock().unwrap_or_else(PoisonError::into_inner);
-        let (report, text) =
-            query.ask_document(&mut document.lock(), form, span, steps(self.limit));
+        let (report, text) = query.ask_document(&mut document.lock(), form, span, self.limit);
         self.answer(&report, text, &[])
     }
 
-    /// The lines, with paths and values, of the nodes asked for in a document that is kept.
-    pub(crate) fn both_in(&self, span: Span, document: &Document) -> Result<String, Error> {
-        self.lines_in(form::BOTH, span, document)
+    /// The lines of the next page of nodes in a document that is kept; none after the last.
+    pub(crate) fn next_page(
+        &self,
+        cursor: &mut Cursor,
+        document: &Document,
+    ) -> Result<String, Error> {
+        let mut query = self.handle.lock().unwrap_or_else(PoisonError::into_inner);
+        let (report, text) = query.next_page(cursor, &mut document.lock(), self.limit.steps);
+        self.answer(&report, text, &[])
     }
 
     /// The text of an outcome, or the error that it stands for.
     fn answer(&self, report: &Report, text: String, document: &[u8]) -> Result<String, Error> {
-        answer(report, text, &self.text, self.profile, document)
+        answer(report, text, &self.text, self.profile, document, self.limit)
     }
-}
-
-/// The limit as C takes it.
-pub(crate) fn steps(limit: Option<NonZeroU64>) -> u64 {
-    limit.map_or(NO_LIMIT, NonZeroU64::get)
 }
 
 /// The text of an outcome, or the error that it stands for.
@@ -296,9 +341,12 @@ pub(crate) fn answer(
     query: &str,
     profile: Profile,
     document: &[u8],
+    limit: Limit,
 ) -> Result<String, Error> {
     match report.status {
         status::DONE => Ok(text),
+        status::TOO_MANY_NODES => Err(Error::TooManyNodes(limit.nodes)),
+        status::TOO_MANY_BYTES => Err(Error::TooManyBytes(limit.bytes)),
         status::DOCUMENT_REFUSED => Err(Error::of_document(report, text, document)),
         _ => Err(Error::of_query(report, query, profile)),
     }
@@ -323,7 +371,9 @@ impl fmt::Debug for Query {
         f.debug_struct("Query")
             .field("text", &self.text)
             .field("profile", &self.profile)
-            .field("limit", &self.limit)
+            .field("limit", &self.limit())
+            .field("max_nodes", &self.max_nodes())
+            .field("max_bytes", &self.max_bytes())
             .finish_non_exhaustive()
     }
 }

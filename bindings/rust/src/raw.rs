@@ -25,6 +25,15 @@ pub(crate) struct Report {
     pub(crate) steps: u64,
 }
 
+/// The most that a call may do and give; of each 0 is any number.
+#[derive(Clone, Copy, Debug, Default, PartialEq, Eq)]
+#[repr(C)]
+pub(crate) struct Limit {
+    pub(crate) steps: u64,
+    pub(crate) nodes: u64,
+    pub(crate) bytes: u64,
+}
+
 /// One of many queries: where it stands in their text, and its report.
 #[derive(Clone, Copy, Default)]
 #[repr(C)]
@@ -53,6 +62,19 @@ struct Text {
 // SAFETY: what is lent is read only while its handle is ours alone.
 unsafe impl Send for Text {}
 
+/// Where someone stands among the nodes of a kept document, at first before all of them.
+#[derive(Default)]
+#[repr(C)]
+pub(crate) struct Cursor {
+    given: u64,
+    asked: u64,
+    /// What is left of a page, which is nothing, since each is taken whole.
+    lines: [usize; 2],
+    steps: u64,
+    known: u64,
+    page: u64,
+}
+
 /// Keeps a query, a document or nothing.
 #[repr(C)]
 pub(crate) struct Handle {
@@ -69,7 +91,7 @@ extern "C" {
     fn jp_version() -> u32;
     fn jp_eval_many(
         queries: *const u8, queries_length: usize, questions: *mut Question, questions_length: usize,
-        document: *const u8, document_length: usize, form: u32, profile: u32, limit: u64,
+        document: *const u8, document_length: usize, form: u32, profile: u32, limit: *const Limit,
         out: *mut u8, out_length: usize,
     ) -> usize;
     fn jp_canon(
@@ -93,11 +115,15 @@ extern "C" {
     ) -> u32;
     fn jp_ask(
         query: *mut Handle, document: *const u8, document_length: usize,
-        form: u32, from: u64, count: u64, limit: u64, text: *mut Text, report: *mut Report,
+        form: u32, from: u64, count: u64, limit: *const Limit, text: *mut Text, report: *mut Report,
     ) -> u32;
     fn jp_ask_document(
         query: *mut Handle, document: *mut Handle,
-        form: u32, from: u64, count: u64, limit: u64, text: *mut Text, report: *mut Report,
+        form: u32, from: u64, count: u64, limit: *const Limit, text: *mut Text, report: *mut Report,
+    ) -> u32;
+    fn jp_next_page(
+        cursor: *mut Cursor, query: *mut Handle, document: *mut Handle,
+        limit: u64, lines: *mut Text, report: *mut Report,
     ) -> u32;
     fn jp_clear(handle: *mut Handle);
 }
@@ -115,7 +141,7 @@ pub(crate) fn eval_many(
     document: &[u8],
     form: u32,
     profile: u32,
-    limit: u64,
+    limit: Limit,
 ) -> String {
     let (_, text) = written(|out, length, report| {
         // SAFETY: each pointer is to as many bytes, or questions, as the length beside it says.
@@ -129,7 +155,7 @@ pub(crate) fn eval_many(
                 document.len(),
                 form,
                 profile,
-                limit,
+                &limit,
                 out,
                 length,
             )
@@ -225,7 +251,7 @@ impl Handle {
         document: &[u8],
         form: u32,
         span: Span,
-        limit: u64,
+        limit: Limit,
     ) -> (Report, String) {
         lent(|text, report| {
             // SAFETY: the document is as long as its length says, and the handle is ours alone.
@@ -237,7 +263,7 @@ impl Handle {
                     form,
                     span.from,
                     span.count,
-                    limit,
+                    &limit,
                     text,
                     report,
                 )
@@ -251,16 +277,34 @@ impl Handle {
         document: &mut Handle,
         form: u32,
         span: Span,
-        limit: u64,
+        limit: Limit,
     ) -> (Report, String) {
         lent(|text, report| {
             // SAFETY: the two handles are not the same, and ours alone.
             unsafe {
                 jp_ask_document(
-                    self, document, form, span.from, span.count, limit, text, report,
+                    self, document, form, span.from, span.count, &limit, text, report,
                 )
             };
         })
+    }
+
+    /// The lines that `jp_next_page` lends of the query that this handle keeps, over the document that the other does.
+    pub(crate) fn next_page(
+        &mut self,
+        cursor: &mut Cursor,
+        document: &mut Handle,
+        steps: u64,
+    ) -> (Report, String) {
+        let (mut report, lines) = lent(|lines, report| {
+            // SAFETY: the cursor holds no page, and the two handles are not the same, and ours alone.
+            unsafe { jp_next_page(cursor, self, document, steps, lines, report) };
+        });
+        if report.status == status::STEPS_USED_UP {
+            // What the last of its evaluations might have made, and not what all of them made.
+            report.steps = steps;
+        }
+        (report, lines)
     }
 
     fn clear(&mut self) {

@@ -86,15 +86,32 @@ fn kept(query: &str, document: &str) -> Result<Nodes, Error> {
 
 #[test]
 fn whole_numbers_are_exact() {
-    let document = "[18446744073709551615,-9223372036854775808,9007199254740993]";
-    assert_eq!(
-        values(&find("$[*]", document).unwrap()),
-        [
-            "18446744073709551615",
-            "-9223372036854775808",
-            "9007199254740993"
-        ]
-    );
+    let doubles = [
+        (1 << 53) - 1,
+        1 << 53,
+        (1 << 53) + 1,
+        1 << 60,
+        (1 << 63) - 1,
+    ];
+    let both = doubles.into_iter().flat_map(|whole: i128| [whole, -whole]);
+    for whole in both.chain([1 << 63, -(1 << 63), (1 << 64) - 1]) {
+        let (text, document) = (whole.to_string(), format!("[{whole}]"));
+        for query in ["$[0]".to_owned(), format!("$[?@=={whole}]")] {
+            assert_eq!(values(&find(&query, &document).unwrap()), [&text]);
+            assert_eq!(values(&kept(&query, &document).unwrap()), [&text]);
+        }
+        let other = format!("$[?@!={whole}]");
+        assert!(find(&other, &document).unwrap().is_empty());
+    }
+    for beyond in [1 << 64, -(1 << 63) - 1, 10_i128.pow(30)] {
+        let Err(Error::Document(fault)) = find("$", &format!("[{beyond}]")) else {
+            panic!("it is refused");
+        };
+        assert_eq!(
+            (fault.kind(), fault.path()),
+            (DocumentKind::NotWhole, Some("$[0]"))
+        );
+    }
 }
 
 #[test]
@@ -270,6 +287,26 @@ fn one_node_after_another() {
     assert!(matches!(query.find_iter(b"[1,"), Err(Error::Document(_))));
 }
 
+/// Why a document is refused is looked for once, however many queries are asked of it.
+#[test]
+fn one_refusal_of_many_queries() {
+    let text = format!("[{}0,]", "0,".repeat(200_000));
+    let time_of = |queries: usize| {
+        let start = std::time::Instant::now();
+        let answers = Queries::new(vec!["$..*"; queries]).find(text.as_bytes());
+        assert_eq!(answers.len(), queries);
+        for answer in &answers {
+            let Err(Error::Document(fault)) = answer else {
+                panic!("the document is no JSON")
+            };
+            assert_eq!((fault.line(), fault.column()), (1, 400_004));
+        }
+        start.elapsed()
+    };
+    let one = (0..3).map(|_| time_of(1)).max().unwrap();
+    assert!(time_of(100) < 20 * one);
+}
+
 #[test]
 fn the_first_of_a_million_nodes() {
     let text = format!("[{}0]", "0,".repeat(999_999));
@@ -317,6 +354,83 @@ fn a_limit_that_suffices_and_one_less() {
     );
 }
 
+/// `$[0]`, a tab, 1 and a newline are seven bytes, and a path alone with its newline five.
+#[test]
+fn a_most_of_nodes_and_bytes_and_one_less() {
+    let document = Document::parse(b"[1,2,3]").unwrap();
+    let query = |text, nodes, bytes| {
+        let query = Query::parse(text).unwrap();
+        query
+            .with_max_nodes(steps(nodes))
+            .with_max_bytes(steps(bytes))
+    };
+    for (text, nodes, bytes, refusal) in [
+        ("$[*]", 3, 21, None),
+        ("$[*]", 3, 20, Some(Error::TooManyBytes(20))),
+        ("$[*]", 2, 21, Some(Error::TooManyNodes(2))),
+        ("$..[?@>1]", 2, 14, None),
+        ("$..[?@>1]", 2, 13, Some(Error::TooManyBytes(13))),
+        ("$..[?@>1]", 1, 14, Some(Error::TooManyNodes(1))),
+        ("$[2]", 1, 7, None),
+        ("$[2]", 1, 6, Some(Error::TooManyBytes(6))),
+    ] {
+        let expected = refusal.map_or(find(text, "[1,2,3]"), Err);
+        let most = query(text, nodes, bytes);
+        let many = Queries::new([text, "$[0]"])
+            .with_max_nodes(most.max_nodes().unwrap())
+            .with_max_bytes(most.max_bytes().unwrap())
+            .find(b"[1,2,3]");
+        assert_eq!(most.find(b"[1,2,3]"), expected, "{text}");
+        assert_eq!(most.find_in(&document), expected, "{text}");
+        assert_eq!(many[0], expected, "{text}");
+    }
+    let first = query("$[*]", 1, 7);
+    for answer in [first.find_first(b"[1,2,3]"), first.find_first_in(&document)] {
+        assert_eq!(answer.unwrap().len(), 1);
+    }
+    let first = query("$[*]", 1, 6);
+    for answer in [first.find_first(b"[1,2,3]"), first.find_first_in(&document)] {
+        assert_eq!(answer, Err(Error::TooManyBytes(6)));
+    }
+    for (bytes, expected) in [(5, Ok(true)), (4, Err(Error::TooManyBytes(4)))] {
+        let any = query("$[*]", 1, bytes);
+        assert_eq!(any.exists(b"[1,2,3]"), expected);
+        assert_eq!(any.exists_in(&document), expected);
+    }
+    // Nodes that are looked for one after another are not counted.
+    assert_eq!(
+        first
+            .find_iter(b"[1,2,3]")
+            .unwrap()
+            .filter(Result::is_ok)
+            .count(),
+        3
+    );
+}
+
+#[test]
+fn which_limit_is_told() {
+    let most = |nodes, bytes| {
+        let query = Query::parse("$[*]").unwrap().with_max_nodes(steps(nodes));
+        query.with_max_bytes(steps(bytes)).find(b"[1,2,3]")
+    };
+    assert_eq!(most(1, 6), Err(Error::TooManyBytes(6)));
+    assert_eq!(most(1, 7), Err(Error::TooManyNodes(1)));
+    assert_eq!(most(2, 13), Err(Error::TooManyBytes(13)));
+    assert_eq!(most(2, 14), Err(Error::TooManyNodes(2)));
+    let none = Query::parse("$..*").unwrap().with_limit(steps(1));
+    let none = none.with_max_nodes(steps(1)).with_max_bytes(steps(1));
+    assert_eq!(none.find(b"[1,2,3]"), Err(Error::StepsUsedUp(1)));
+    assert_eq!(
+        Error::TooManyNodes(2).to_string(),
+        "too many nodes: the query selects more than 2"
+    );
+    assert_eq!(
+        Error::TooManyBytes(9).to_string(),
+        "too many bytes: the answer has more than 9"
+    );
+}
+
 #[test]
 fn many_queries() {
     let texts = ["$.a[*]", "$.a[01]", "$.é", "", "$.b", "$.a"];
@@ -327,6 +441,11 @@ fn many_queries() {
         assert_eq!(answer, find(text, &document));
     }
     assert!(Queries::new::<&str>([]).find(b"[").is_empty());
+    let refused = Queries::new(["$[01]", "$"]).find(b"[1,]");
+    assert!(matches!(
+        refused[..],
+        [Err(Error::Query(_)), Err(Error::Document(_))]
+    ));
 }
 
 #[test]

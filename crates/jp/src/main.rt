@@ -6,7 +6,7 @@
 
 use jp_command::{Device, buffered, exit_status, run_line, unbuffered};
 use std::process::ExitCode;
-use std::{env, io};
+use std::{env, fs, io};
 
 fn main(rt: HostRuntime) -> ExitCode {
     let mut faults = Device::new(rt.stderr());
@@ -17,11 +17,19 @@ fn main(rt: HostRuntime) -> ExitCode {
 fn run(rt: &HostRuntime) -> io::Result<u8> {
     let alloc = rt.alloc();
     let words = env::args(rt)?.collect(alloc)?;
-    let mut input = Device::new(rt.stdin());
+    let mut input = Device::new(rt.stdin()).with_size(input_size(rt));
     let mut output = buffered(alloc, rt.stdout())?;
     let mut faults = Device::new(rt.stderr());
     let status = run_line(alloc, words, &mut input, &mut output, &mut faults);
     // A buffer that is dropped writes what a failed write has left in it.
     let _ = unbuffered(output);
     Ok(status)
+}
+
+/// How many bytes the standard input has where it is a file; 0 where it does not tell.
+fn input_size(rt: &HostRuntime) -> usize {
+    match fs::metadata(rt, "/dev/stdin") {
+        Ok(file) => file.len() as usize,
+        Err(_) => 0,
+    }
 }

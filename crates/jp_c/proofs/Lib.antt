@@ -4,6 +4,4 @@ mod HeldValues
 mod Explaining
 mod Outcomes
 mod Placed
-mod Selecting
 mod Questions
-mod Refusals

@@ -1,5 +1,5 @@
 -- Queries and documents as bytes: what is accepted, what is answered, and why nothing is.
-use Rattle.std.specs.Prelude.{◌≡◌, ◌≢◌, ℕ, List}
+use Rattle.std.specs.Prelude.{◌≡◌, ◌≢◌, ℕ, List, length}
 use Rattle.std.specs.Str.{chars, IsUtf8}
 use Rattle.std.specs.Str.Lossy.{utf8_valid_len}
 use Rattle.jp_canon.specs.Canon.{canon_of}
@@ -10,14 +10,18 @@ use Rattle.jp_command.specs.declared.lines.Form.{Form}
 use Rattle.jp_document.specs.Document.{IsDocument, IsDocumentFault}
 use Rattle.jp_document.specs.Value.{Value}
 use Rattle.jp_document.specs.declared.fault.DocumentFault.TheVariants as document
+use Rattle.jp_evaluate.specs.Nodelist.{nodelist}
+use Rattle.jp_limit.specs.OutputLimit.{StaysWithin}
+use Rattle.jp_limit.specs.declared.output_limit.OutputLimit.{OutputLimit}
 use Rattle.jp_query.specs.declared.refusal.Refusal.{Refusal}
 use Rattle.jp_query.specs.declared.refusal.RefusalKind.TheVariants.{Syntax}
 use Rattle.jp_tree.specs.Tree.{QueryTree}
-use Rattle.jsonpath.specs.Find.{RefusesText}
+use Rattle.jsonpath.specs.Find.{IsGivenUp, RefusesText}
 use Rattle.jsonpath.specs.Size.{Fits, IsTooLarge}
 use Rattle.jsonpath.specs.declared.fault.FindFault.{FindFault}
 use Rattle.jsonpath.specs.declared.fault.FindFault.TheVariants.{Query, Document, DocumentTooLarge}
 use Rattle.jsonpath.specs.declared.fault.FindFault.TheVariants.{NoMemory, StepsUsedUp}
+use Rattle.jsonpath.specs.declared.fault.FindFault.TheVariants.{TooManyNodes, TooManyBytes}
 
 -- the bytes are a text (RFC 3629), which in the profile is accepted as the tree q
 pub record IsAcceptedInBytes (profile : Profile) (bytes : List ℕ) (q : QueryTree) : Type 0 where
@@ -41,6 +45,8 @@ IsQueryFault profile bytes (Document f) = ⊥
 IsQueryFault profile bytes DocumentTooLarge = ⊥
 IsQueryFault profile bytes NoMemory = Unit {0}
 IsQueryFault profile bytes StepsUsedUp = ⊥
+IsQueryFault profile bytes TooManyNodes = ⊥
+IsQueryFault profile bytes TooManyBytes = ⊥
 
 -- why no document is read: the bytes are too many, or they are none, with that fault; running out of
 -- memory says nothing of them
@@ -50,30 +56,48 @@ IsNoDocument bytes (Document f) = IsDocumentFault bytes f × (f ≢ document.NoM
 IsNoDocument bytes DocumentTooLarge = IsTooLarge bytes
 IsNoDocument bytes NoMemory = Unit {0}
 IsNoDocument bytes StepsUsedUp = ⊥
+IsNoDocument bytes TooManyNodes = ⊥
+IsNoDocument bytes TooManyBytes = ⊥
 
--- the text is the lines, in that form, of the nodes that the query selects in the document
-pub record IsAnswer (profile : Profile) (form : Form) (query bytes text : List ℕ) : Type 0 where
+-- the text is the lines, in that form, of the nodes that the query selects in the document, as many as may
+-- come out
+pub record IsAnswer (most : OutputLimit) (profile : Profile) (form : Form) (query bytes text : List ℕ)
+    : Type 0 where
   pub q : QueryTree
   pub d : Value
   pub asked : IsAcceptedInBytes profile query q
   pub document : IsDocument bytes d
   pub fits : Fits bytes
   pub lines : text ≡ output_of form q d
+  pub within : StaysWithin most (length (nodelist q d)) (length text)
+
+-- the query is accepted, the bytes are a document, and for that fault no lines of its nodes are given
+pub record GivesNoLines (most : OutputLimit) (profile : Profile) (form : Form) (query bytes : List ℕ)
+    (fault : FindFault) : Type 0 where
+  pub q : QueryTree
+  pub d : Value
+  pub asked : IsAcceptedInBytes profile query q
+  pub document : IsDocument bytes d
+  pub fits : Fits bytes
+  pub why : IsGivenUp most (length (nodelist q d)) (length (output_of form q d)) fault
 
 -- why there is no answer: the query is refused; or it is accepted and the bytes are too many, or no
 -- document, with that fault; or it is accepted, the bytes are a document, and more steps are needed
--- than are allowed; running out of memory says nothing of either
-abbrev pub IsNoAnswer : Profile → List ℕ → List ℕ → FindFault → Type 0
-IsNoAnswer profile query bytes (Query r) = RefusesBytes profile query r
-IsNoAnswer profile query bytes (Document f) =
+-- than are allowed, or more comes out than may; running out of memory says nothing of either
+abbrev pub IsNoAnswer : OutputLimit → Profile → Form → List ℕ → List ℕ → FindFault → Type 0
+IsNoAnswer most profile form query bytes (Query r) = RefusesBytes profile query r
+IsNoAnswer most profile form query bytes (Document f) =
     ((q : QueryTree) × IsAcceptedInBytes profile query q) × IsDocumentFault bytes f
     × (f ≢ document.NoMemory) × Fits bytes
-IsNoAnswer profile query bytes DocumentTooLarge =
+IsNoAnswer most profile form query bytes DocumentTooLarge =
     ((q : QueryTree) × IsAcceptedInBytes profile query q) × IsTooLarge bytes
-IsNoAnswer profile query bytes StepsUsedUp =
-    ((q : QueryTree) × IsAcceptedInBytes profile query q) × ((d : Value) × IsDocument bytes d)
-    × Fits bytes
-IsNoAnswer profile query bytes NoMemory = Unit {0}
+IsNoAnswer most profile form query bytes StepsUsedUp =
+    GivesNoLines most profile form query bytes StepsUsedUp
+IsNoAnswer most profile form query bytes TooManyNodes =
+    GivesNoLines most profile form query bytes TooManyNodes
+IsNoAnswer most profile form query bytes TooManyBytes =
+    GivesNoLines most profile form query bytes TooManyBytes
+IsNoAnswer most profile form query bytes NoMemory = Unit {0}
 
 -- the text is the canonical one of the query that the bytes are
 pub record IsCanonOf (profile : Profile) (query text : List ℕ) : Type 0 where

@@ -1,6 +1,5 @@
 -- What is asked with a query that is kept, and how the answer is lent.
-use Rattle.std.specs.Prelude.{◌≡◌, ◌==◌, ◌⊎◌, ℕ, if◌then◌else◌, List, [], Option, None, Some, String, length}
-use Rattle.std.specs.Prelude.{string_bytes}
+use Rattle.std.specs.Prelude.{◌≡◌, ◌⊎◌, ℕ, List, [], Option, None, Some, String, length, string_bytes}
 use Rattle.std.specs.String.{string_vec}
 use Rattle.std.specs.Vec.{vec_ptr}
 use Rattle.std.specs.declared.alloc.Global.{Global}
@@ -8,15 +7,20 @@ use Rattle.jp_command.specs.Lines.{lines_of}
 use Rattle.jp_command.specs.Selecting.{nodes_behind}
 use Rattle.jp_command.specs.declared.lines.Form.{Form}
 use Rattle.jp_document.specs.Document.{IsDocument}
+use Rattle.jp_document.specs.Node.{Node}
 use Rattle.jp_document.specs.Value.{Value}
 use Rattle.jp_evaluate.specs.Nodelist.{nodelist}
+use Rattle.jp_limit.specs.OutputLimit.{StaysWithin}
+use Rattle.jp_limit.specs.declared.output_limit.OutputLimit.{OutputLimit}
 use Rattle.jp_tree.specs.Tree.{QueryTree}
+use Rattle.jsonpath.specs.Find.{IsGivenUp}
 use Rattle.jsonpath.specs.Size.{Fits}
 use Rattle.jsonpath.specs.declared.fault.FindFault.{FindFault}
 use Rattle.jsonpath.specs.declared.fault.FindFault.TheVariants as find
 use Rattle.jp_c.specs.Asked.{IsNoDocument}
 use Rattle.jp_c.specs.Calls.{IsPlaceless}
-use Rattle.jp_c.specs.Handles.{IsSelected, query_kept, document_kept}
+use Rattle.jp_c.specs.Handles.{query_kept, document_kept}
+use Rattle.jp_c.specs.Limit.{most_of}
 use Rattle.jp_c.specs.Misread.{IsMisreadAt}
 use Rattle.jp_c.specs.Numbers.{form_of}
 use Rattle.jp_c.specs.Outcome.{report_of, status_of, told_text}
@@ -27,52 +31,68 @@ use Rattle.jp_c.specs.declared.outcome.Outcome as outcome
 use Rattle.jp_c.specs.declared.outcome.Outcome.TheVariants.{Text, Usage, Fault, Misread}
 use Rattle.jp_c.specs.declared.outcome.Report.{Report}
 
--- how many nodes are asked for at most: of 0 all
-abbrev pub most_of : ℕ → Option ℕ
-most_of count = if count == 0 then None else Some count
+-- the nodes that the query selects in the document behind the first `from` ones: so many of them, of 0 all
+abbrev pub nodes_asked : ℕ → ℕ → QueryTree → Value → List Node
+nodes_asked from count q d = nodes_behind from (most_of count) (nodelist q d)
 
--- the lines, in that form, of the nodes that the query selects in the document behind the first `from` ones: of
--- so many of them
+-- their lines, in that form
 abbrev pub answer_of : ℕ → ℕ → Form → QueryTree → Value → List ℕ
-answer_of from count f q d = lines_of f (nodes_behind from (most_of count) (nodelist q d))
+answer_of from count f q d = lines_of f (nodes_asked from count q d)
 
 -- a form has that number, and the handle keeps a query
 pub record IsAskedOf (form : ℕ) (query : Option Kept) (f : Form) (q : QueryTree) : Type 0 where
   pub form_is : form_of form ≡ Some f
   pub query_is : query_kept query ≡ Some q
 
+-- the bytes are a document, and for that fault no lines of the nodes asked for are given
+abbrev pub GivesNoneOf : ℕ → ℕ → Form → QueryTree → List ℕ → OutputLimit → FindFault → Type 0
+GivesNoneOf from count f q bytes most fault =
+    (d : Value) × IsDocument bytes d × Fits bytes
+    × IsGivenUp most (length (nodes_asked from count q d)) (length (answer_of from count f q d)) fault
+
 -- why there is no answer of these bytes: they are no document; or they are one, and more steps are
--- needed than are allowed
-abbrev pub IsNoAnswerOf : List ℕ → FindFault → Type 0
-IsNoAnswerOf bytes find.StepsUsedUp = ((d : Value) × IsDocument bytes d) × Fits bytes
-IsNoAnswerOf bytes fault = IsNoDocument bytes fault
+-- needed than are allowed, or more comes out than may
+abbrev pub IsNoAnswerOf : ℕ → ℕ → Form → QueryTree → List ℕ → OutputLimit → FindFault → Type 0
+IsNoAnswerOf from count f q bytes most find.StepsUsedUp =
+    GivesNoneOf from count f q bytes most find.StepsUsedUp
+IsNoAnswerOf from count f q bytes most find.TooManyNodes =
+    GivesNoneOf from count f q bytes most find.TooManyNodes
+IsNoAnswerOf from count f q bytes most find.TooManyBytes =
+    GivesNoneOf from count f q bytes most find.TooManyBytes
+IsNoAnswerOf from count f q bytes most fault = IsNoDocument bytes fault
 
 -- of `jp_ask`: the lines of the nodes asked for that the query kept by the handle selects in the document that
 -- the bytes are; or no form has that number, or the handle keeps no query; or why there is no answer, with the
 -- place of a document that is refused
-abbrev pub IsAskOutcome : ℕ → ℕ → ℕ → Option Kept → List ℕ → outcome.Outcome → Type 0
-IsAskOutcome form from count query bytes (Text text) =
+abbrev pub IsAskOutcome : ℕ → ℕ → ℕ → Option Kept → List ℕ → OutputLimit → outcome.Outcome → Type 0
+IsAskOutcome form from count query bytes most (Text text) =
     (f : Form) × (q : QueryTree) × (d : Value) × IsAskedOf form query f q × IsDocument bytes d
     × Fits bytes × (string_bytes text ≡ answer_of from count f q d)
-IsAskOutcome form from count query bytes Usage = (form_of form ≡ None) ⊎ (query_kept query ≡ None)
-IsAskOutcome form from count query bytes (Fault fault) =
-    (f : Form) × (q : QueryTree) × IsAskedOf form query f q × IsNoAnswerOf bytes fault
-    × IsPlaceless fault
-IsAskOutcome form from count query bytes (Misread fault place) =
+    × StaysWithin most (length (nodes_asked from count q d)) (length (string_bytes text))
+IsAskOutcome form from count query bytes most Usage =
+    (form_of form ≡ None) ⊎ (query_kept query ≡ None)
+IsAskOutcome form from count query bytes most (Fault fault) =
+    (f : Form) × (q : QueryTree) × IsAskedOf form query f q
+    × IsNoAnswerOf from count f q bytes most fault × IsPlaceless fault
+IsAskOutcome form from count query bytes most (Misread fault place) =
     (f : Form) × (q : QueryTree) × IsAskedOf form query f q × IsNoDocument bytes (find.Document fault)
     × IsMisreadAt bytes place
 
 -- of `jp_ask_document`: the same of the document that another handle keeps
-abbrev pub IsAskDocumentOutcome : ℕ → ℕ → ℕ → Option Kept → Option Kept → outcome.Outcome → Type 0
-IsAskDocumentOutcome form from count query document (Text text) =
-    (f : Form) × (q : QueryTree) × (d : Value) × IsSelected form query document f q d
+abbrev pub IsAskDocumentOutcome : ℕ → ℕ → ℕ → Option Kept → Option Kept → OutputLimit
+    → outcome.Outcome → Type 0
+IsAskDocumentOutcome form from count query document most (Text text) =
+    (f : Form) × (q : QueryTree) × (d : Value) × IsAskedOf form query f q
+    × (document_kept document ≡ Some d)
     × (string_bytes text ≡ answer_of from count f q d)
-IsAskDocumentOutcome form from count query document Usage =
+    × StaysWithin most (length (nodes_asked from count q d)) (length (string_bytes text))
+IsAskDocumentOutcome form from count query document most Usage =
     (form_of form ≡ None) ⊎ (query_kept query ≡ None) ⊎ (document_kept document ≡ None)
-IsAskDocumentOutcome form from count query document (Fault fault) =
-    (f : Form) × (q : QueryTree) × (d : Value) × IsSelected form query document f q d
-    × ((fault ≡ find.NoMemory) ⊎ (fault ≡ find.StepsUsedUp))
-IsAskDocumentOutcome form from count query document (Misread fault place) = ⊥
+IsAskDocumentOutcome form from count query document most (Fault fault) =
+    (f : Form) × (q : QueryTree) × (d : Value) × IsAskedOf form query f q
+    × (document_kept document ≡ Some d)
+    × IsGivenUp most (length (nodes_asked from count q d)) (length (answer_of from count f q d)) fault
+IsAskDocumentOutcome form from count query document most (Misread fault place) = ⊥
 
 -- the text that is kept with a query, as the answer of the last call
 abbrev pub text_kept : Option Kept → Option (String Global)

@@ -2,9 +2,11 @@
 use Rattle.std.specs.Prelude.{◌≡◌, ◌⊎◌, ℕ, List, [], Some, None, string_bytes}
 use Rattle.jp_check.specs.declared.profile.Profile.{Profile}
 use Rattle.jp_command.specs.declared.lines.Form.{Form}
+use Rattle.jp_limit.specs.declared.output_limit.OutputLimit.{OutputLimit}
 use Rattle.jp_tree.specs.Tree.{QueryTree}
 use Rattle.jsonpath.specs.declared.fault.FindFault.TheVariants.{Document, DocumentTooLarge, NoMemory}
-use Rattle.jsonpath.specs.declared.fault.FindFault.TheVariants.{Query, StepsUsedUp}
+use Rattle.jsonpath.specs.declared.fault.FindFault.TheVariants.{Query, StepsUsedUp, TooManyBytes}
+use Rattle.jsonpath.specs.declared.fault.FindFault.TheVariants.{TooManyNodes}
 use Rattle.jsonpath.specs.Size.{Fits, IsTooLarge}
 use Rattle.jsonpath.specs.declared.fault.FindFault.{FindFault}
 use Rattle.jp_c.specs.Asked.{IsAnswer, IsAcceptedInBytes, IsCanonOf, IsNoAnswer, IsQueryFault}
@@ -25,21 +27,23 @@ IsPlaceless (Query r) = Unit {0}
 IsPlaceless DocumentTooLarge = Unit {0}
 IsPlaceless NoMemory = Unit {0}
 IsPlaceless StepsUsedUp = Unit {0}
+IsPlaceless TooManyNodes = Unit {0}
+IsPlaceless TooManyBytes = Unit {0}
 
 -- of `jp_eval`: the lines of the nodelist, or why there are none, and of bytes that are no document also
 -- where
-abbrev pub IsEvalOutcome : ℕ → ℕ → List ℕ → List ℕ → outcome.Outcome → Type 0
-IsEvalOutcome form profile query document (Text text) =
+abbrev pub IsEvalOutcome : ℕ → ℕ → List ℕ → List ℕ → OutputLimit → outcome.Outcome → Type 0
+IsEvalOutcome form profile query document most (Text text) =
     (f : Form) × (p : Profile) × (form_of form ≡ Some f) × (profile_of profile ≡ Some p)
-    × IsAnswer p f query document (string_bytes text)
-IsEvalOutcome form profile query document Usage =
+    × IsAnswer most p f query document (string_bytes text)
+IsEvalOutcome form profile query document most Usage =
     (form_of form ≡ None) ⊎ (profile_of profile ≡ None)
-IsEvalOutcome form profile query document (Fault fault) =
-    (p : Profile) × (profile_of profile ≡ Some p) × IsNoAnswer p query document fault
-    × IsPlaceless fault
-IsEvalOutcome form profile query document (Misread fault place) =
-    (p : Profile) × (profile_of profile ≡ Some p) × IsNoAnswer p query document (Document fault)
-    × IsMisreadAt document place
+IsEvalOutcome form profile query document most (Fault fault) =
+    (f : Form) × (p : Profile) × (form_of form ≡ Some f) × (profile_of profile ≡ Some p)
+    × IsNoAnswer most p f query document fault × IsPlaceless fault
+IsEvalOutcome form profile query document most (Misread fault place) =
+    (f : Form) × (p : Profile) × (form_of form ≡ Some f) × (profile_of profile ≡ Some p)
+    × IsNoAnswer most p f query document (Document fault) × IsMisreadAt document place
 
 -- of `jp_canon`: the canonical text, or why there is none
 abbrev pub IsCanonOutcome : ℕ → List ℕ → outcome.Outcome → Type 0

@@ -19,6 +19,8 @@ status_of (Misread f place) = 3
 status_of (Fault find.DocumentTooLarge) = 3
 status_of (Fault find.NoMemory) = 4
 status_of (Fault find.StepsUsedUp) = 6
+status_of (Fault find.TooManyNodes) = 8
+status_of (Fault find.TooManyBytes) = 9
 
 -- the number of a query's refusal or of a document's fault, of which that it is too large is the next
 -- after those of its bytes

@@ -1,24 +1,30 @@
 //! From bytes to answers.
 
-ghost use Rattle.std.specs.Prelude.{◌≡◌, ◌⊎◌, IfErr, IfOk, string_bytes};
-ghost use Rattle.jp_command.specs.Lines.{output_of};
+ghost use Rattle.std.specs.Prelude.{◌≡◌, ◌⊎◌, IfErr, IfOk, length, string_bytes};
+ghost use Rattle.jp_command.specs.Lines.{lines_of, output_of};
 ghost use Rattle.std.specs.Str.{IsUtf8};
 ghost use Rattle.jp_document.specs.Document.{IsDocument};
+ghost use Rattle.jp_evaluate.specs.Nodelist.{nodelist};
+ghost use Rattle.jp_evaluate.specs.Plan.{nodes_read};
 ghost use Rattle.jp_flat.specs.FlatValue.{document_in, lent_flat};
+ghost use Rattle.jp_limit.specs.OutputLimit.{StaysWithin};
 ghost use Rattle.jp_query.specs.declared.refusal.RefusalKind.TheVariants.{NoMemory};
 ghost use Rattle.jp_tree.specs.Views.{query_of};
 ghost use Rattle.jp_c.specs.Asked.{IsAnswer, IsAcceptedInBytes, IsCanonOf, IsNoAnswer, IsNoText};
 ghost use Rattle.jp_c.specs.Asked.{IsNoDocument, IsQueryFault, RefusesBytes};
+ghost use Rattle.jp_c.specs.Limit.{output_within};
 ghost use Rattle.jp_c.specs.Private.Spending.{Spends};
+ghost use Rattle.jsonpath.specs.Find.{IsGivenUp};
 ghost use Rattle.jsonpath.specs.Size.{Fits};
-ghost use Rattle.jsonpath.specs.declared.fault.FindFault.TheVariants as find;
 
+use crate::given_up::given_up;
+use crate::limit::Limit;
 use jp_canon::canon;
 use jp_check::{Checked, Profile, read_query};
 use jp_command::{Form, lines_at, selected_lines};
-use jp_evaluate::{Patterns, named_location};
-use jp_flat::{Flat, FlatValue, found_value};
-use jp_held::{read_flat, read_value_at};
+use jp_evaluate::{Patterns, Plan};
+use jp_flat::{Flat, FlatValue};
+use jp_held::{Excerpt, read_flat};
 use jp_query::{Refusal, RefusalKind};
 use jp_select::Steps;
 use jsonpath::{FindFault, check_size};
@@ -82,17 +88,34 @@ pub(crate) fn lines(
     form: Form,
     root: FlatValue<'_, '_>,
     query: &Checked,
+    limit: Limit,
     steps: &mut Steps,
 ) -> Result<String, FindFault>
     ensures lines { IfOk result (λ text.
         string_bytes text ≡ output_of form (query_of query.now.query) (lent_flat root.entry)) }
-    ensures fault { IfErr result (λ fault. (fault ≡ find.NoMemory) ⊎ (fault ≡ find.StepsUsedUp)) }
+    ensures within { IfOk result (λ text. StaysWithin (output_within limit)
+        (length (nodelist (query_of query.now.query) (lent_flat root.entry)))
+        (length (string_bytes text))) }
+    ensures fault { IfErr result (IsGivenUp (output_within limit)
+        (length (nodelist (query_of query.now.query) (lent_flat root.entry)))
+        (length (output_of form (query_of query.now.query) (lent_flat root.entry)))) }
     ensures spends { Spends result steps.old steps.new }
 {
     let mut patterns = Patterns::new(alloc);
-    match selected_lines(alloc, form, "", None, root, query, &mut patterns, steps) {
+    let most = limit.output();
+    match selected_lines(
+        alloc,
+        form,
+        "",
+        None,
+        most,
+        root,
+        query,
+        &mut patterns,
+        steps,
+    ) {
         Ok(lines) => Ok(lines.text),
-        Err(fault) => Err(FindFault::from(fault)),
+        Err(fault) => Err(given_up(fault)),
     }
 }
 
@@ -104,23 +127,46 @@ pub(crate) fn answer(
     document: &[u8],
     form: Form,
     profile: Profile,
+    limit: Limit,
     steps: &mut Steps,
 ) -> Result<String, FindFault>
     ensures answer { IfOk result (λ text.
-        IsAnswer profile form query.now document.now (string_bytes text)) }
-    ensures fault { IfErr result (IsNoAnswer profile query.now document.now) }
+        IsAnswer (output_within limit) profile form query.now document.now (string_bytes text)) }
+    ensures fault { IfErr result
+        (IsNoAnswer (output_within limit) profile form query.now document.now) }
     ensures spends { Spends result steps.old steps.new }
 {
     let query = asked(alloc, query, profile)?;
-    match named_location(alloc, &query)? {
-        Some(location) => {
-            check_size(document)?;
-            let found = read_value_at(alloc, document, &location)?;
-            Ok(lines_at(alloc, form, &location, found_value(&found))?)
-        }
-        None => {
-            let flat = read_document(alloc, document)?;
-            lines(alloc, form, flat.value(), &query, steps)
+    check_size(document)?;
+    let plan = Plan::of(alloc, &query)?;
+    let read = plan.read(alloc, document)?;
+    lines_read(alloc, form, &query, &read, limit, steps)
+}
+
+/// The lines, in that form, of the nodes that a query has in what was read of a document for it.
+fn lines_read(
+    alloc: Global,
+    form: Form,
+    query: &Checked,
+    read: &Excerpt<'_, '_, '_>,
+    limit: Limit,
+    steps: &mut Steps,
+) -> Result<String, FindFault>
+    ensures lines { IfOk result (λ text.
+        string_bytes text ≡ lines_of form (nodes_read (query_of query.now.query) read.now)) }
+    ensures within { IfOk result (λ text. StaysWithin (output_within limit)
+        (length (nodes_read (query_of query.now.query) read.now)) (length (string_bytes text))) }
+    ensures fault { IfErr result (IsGivenUp (output_within limit)
+        (length (nodes_read (query_of query.now.query) read.now))
+        (length (lines_of form (nodes_read (query_of query.now.query) read.now)))) }
+    ensures spends { Spends result steps.old steps.new }
+{
+    match read {
+        Excerpt::Document(flat) => lines(alloc, form, flat.value(), query, limit, steps),
+        Excerpt::Value(location, found) => {
+            let text = lines_at(alloc, form, location, found.value())?;
+            limit.check_bytes(text.as_str())?;
+            Ok(text)
         }
     }
 }
@@ -134,26 +180,28 @@ pub(crate) fn answer_from(
     document: &[u8],
     form: Form,
     profile: Profile,
+    limit: Limit,
     steps: &mut Steps,
 ) -> Result<String, FindFault>
     requires document { IfOk read.now
         (λ flat. IsDocument document.now (document_in flat) × Fits document.now) }
     requires fault { IfErr read.now (IsNoDocument document.now) }
     ensures answer { IfOk result (λ text.
-        IsAnswer profile form query.now document.now (string_bytes text)) }
-    ensures fault { IfErr result (IsNoAnswer profile query.now document.now) }
+        IsAnswer (output_within limit) profile form query.now document.now (string_bytes text)) }
+    ensures fault { IfErr result
+        (IsNoAnswer (output_within limit) profile form query.now document.now) }
     ensures spends { Spends result steps.old steps.new }
 {
     match read {
         Ok(flat) => {
             let query = asked(alloc, query, profile)?;
-            lines(alloc, form, flat.value(), &query, steps)
+            lines(alloc, form, flat.value(), &query, limit, steps)
         }
         Err(FindFault::Document(fault)) => {
             asked(alloc, query, profile)?;
             Err(FindFault::Document(fault.copy(alloc)?))
         }
-        Err(_) => answer(alloc, query, document, form, profile, steps),
+        Err(_) => answer(alloc, query, document, form, profile, limit, steps),
     }
 }
 

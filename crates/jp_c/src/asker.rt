@@ -1,10 +1,10 @@
 //! A kept query that is asked.
 
-ghost use Rattle.std.specs.Prelude.{◌≡◌, ◌⊎◌, ◌++◌, IfErr, IfOk, IsTrue, MatchResult, OnOk, false, map};
+ghost use Rattle.std.specs.Prelude.{◌≡◌, ◌++◌, [], IfErr, IfOk, IsTrue, MatchResult, OnOk, false, length, map};
 ghost use Rattle.std.specs.Prelude.{string_bytes};
 ghost use Rattle.jp_c.specs.Asked.{IsNoDocument};
-ghost use Rattle.jp_c.specs.Asking.{IsNoAnswerOf, answer_of, most_of};
-ghost use Rattle.jp_c.specs.Limit.{MakesSteps};
+ghost use Rattle.jp_c.specs.Asking.{IsNoAnswerOf, answer_of, nodes_asked};
+ghost use Rattle.jp_c.specs.Limit.{MakesSteps, output_within};
 ghost use Rattle.jp_c.specs.Outcome.{report_of, told_text};
 ghost use Rattle.jp_c.specs.Private.Askers.{AnswersNamed, LendsText};
 ghost use Rattle.jp_c.specs.declared.outcome.Outcome.TheVariants.{Fault, Text};
@@ -15,12 +15,15 @@ ghost use Rattle.jp_document.specs.Location.{step_of};
 ghost use Rattle.jp_document.specs.Value.{Value};
 ghost use Rattle.jp_evaluate.specs.Named.{nodes_at};
 ghost use Rattle.jp_flat.specs.FlatValue.{lent_flat};
+ghost use Rattle.jp_limit.specs.OutputLimit.{StaysWithin};
 ghost use Rattle.jp_tree.specs.Views.{query_of};
+ghost use Rattle.jsonpath.specs.Find.{IsGivenUp};
 ghost use Rattle.jsonpath.specs.Size.{Fits};
-ghost use Rattle.jsonpath.specs.declared.fault.FindFault.TheVariants as find;
 
+use crate::given_up::given_up;
 use crate::kept::Asker;
 use crate::lent::{Lent, lend};
+use crate::limit::{Limit, most};
 use crate::memory::Memory;
 use crate::outcome::{Answered, Report};
 use jp_check::Checked;
@@ -33,16 +36,6 @@ use jp_select::Steps;
 use jsonpath::{FindFault, check_size};
 use std::alloc::Global;
 use std::mem;
-
-/// How many nodes are asked for at most, where 0 asks for all.
-fn most(count: u64) -> Option<u64>
-    ensures { result ≡ most_of count }
-{
-    match count {
-        0 => None,
-        _ => Some(count),
-    }
-}
 
 impl Asker {
     /// The query, with no memory yet.
@@ -63,22 +56,29 @@ impl Asker {
         from: u64,
         count: u64,
         document: &[u8],
+        limit: Limit,
         steps: &mut Steps,
     ) -> Result<(), FindFault>
         ensures query { self.new.query ≡ self.old.query }
         ensures answer { OnOk result ((d : Value) × IsDocument document.now d × Fits document.now
             × (string_bytes self.new.memory.text
-            ≡ answer_of from count form (query_of self.old.query.query) d)) }
-        ensures fault { IfErr result (IsNoAnswerOf document.now) }
+            ≡ answer_of from count form (query_of self.old.query.query) d)
+            × StaysWithin (output_within limit)
+            (length (nodes_asked from count (query_of self.old.query.query) d))
+            (length (string_bytes self.new.memory.text))) }
+        ensures fault { IfErr result (IsNoAnswerOf from count form (query_of self.old.query.query)
+            document.now (output_within limit)) }
         ensures spends { Spends result steps.old steps.new }
     {
         let Asker { query, memory } = self;
         memory.text.clear();
         check_size(document)?;
         if from == 0 && ask_named(alloc, form, query, document, memory)? {
-            return Ok(());
+            return limit.check_bytes(memory.text.as_str());
         }
-        ask_whole(alloc, form, from, count, query, document, memory, steps)
+        ask_whole(
+            alloc, form, from, count, query, document, memory, limit, steps,
+        )
     }
 
     /// What `ask` puts into the text, of a document that was read.
@@ -89,17 +89,24 @@ impl Asker {
         from: u64,
         count: u64,
         root: FlatValue<'_, '_>,
+        limit: Limit,
         steps: &mut Steps,
     ) -> Result<(), FindFault>
         ensures query { self.new.query ≡ self.old.query }
         ensures answer { OnOk result (string_bytes self.new.memory.text
             ≡ answer_of from count form (query_of self.old.query.query) (lent_flat root.entry)) }
-        ensures fault { IfErr result (λ fault. (fault ≡ find.NoMemory) ⊎ (fault ≡ find.StepsUsedUp)) }
+        ensures within { OnOk result (StaysWithin (output_within limit)
+            (length (nodes_asked from count (query_of self.old.query.query) (lent_flat root.entry)))
+            (length (string_bytes self.new.memory.text))) }
+        ensures fault { IfErr result (IsGivenUp (output_within limit)
+            (length (nodes_asked from count (query_of self.old.query.query) (lent_flat root.entry)))
+            (length (answer_of from count form (query_of self.old.query.query)
+            (lent_flat root.entry)))) }
         ensures spends { Spends result steps.old steps.new }
     {
         let Asker { query, memory } = self;
         memory.text.clear();
-        walk(alloc, form, from, count, query, root, memory, steps)
+        walk(alloc, form, from, count, query, root, memory, limit, steps)
     }
 
     /// What is answered, which takes the memory's text, or the text where there is no answer.
@@ -209,19 +216,34 @@ fn ask_whole(
     query: &Checked,
     document: &[u8],
     memory: &mut Memory,
+    limit: Limit,
     steps: &mut Steps,
 ) -> Result<(), FindFault>
-    requires { Fits document.now }
+    requires fits { Fits document.now }
+    requires empty { string_bytes memory.now.text ≡ [] }
     ensures answer { OnOk result ((d : Value) × IsDocument document.now d
-        × (string_bytes memory.new.text ≡ string_bytes memory.old.text
-        ++ answer_of from count form (query_of query.now.query) d)) }
-    ensures fault { IfErr result (IsNoAnswerOf document.now) }
+        × (string_bytes memory.new.text ≡ answer_of from count form (query_of query.now.query) d)
+        × StaysWithin (output_within limit)
+        (length (nodes_asked from count (query_of query.now.query) d))
+        (length (string_bytes memory.new.text))) }
+    ensures fault { IfErr result (IsNoAnswerOf from count form (query_of query.now.query)
+        document.now (output_within limit)) }
     ensures spends { Spends result steps.old steps.new }
 {
     let room = memory.take_room(alloc);
     match read_into(alloc, room, document) {
         Ok(flat) => {
-            let asked = walk(alloc, form, from, count, query, flat.value(), memory, steps);
+            let asked = walk(
+                alloc,
+                form,
+                from,
+                count,
+                query,
+                flat.value(),
+                memory,
+                limit,
+                steps,
+            );
             memory.room = flat.into_room();
             asked
         }
@@ -241,11 +263,18 @@ fn walk(
     query: &Checked,
     root: FlatValue<'_, '_>,
     memory: &mut Memory,
+    limit: Limit,
     steps: &mut Steps,
 ) -> Result<(), FindFault>
-    ensures answer { OnOk result (string_bytes memory.new.text ≡ string_bytes memory.old.text
-        ++ answer_of from count form (query_of query.now.query) (lent_flat root.entry)) }
-    ensures fault { IfErr result (λ fault. (fault ≡ find.NoMemory) ⊎ (fault ≡ find.StepsUsedUp)) }
+    requires { string_bytes memory.now.text ≡ [] }
+    ensures answer { OnOk result (string_bytes memory.new.text
+        ≡ answer_of from count form (query_of query.now.query) (lent_flat root.entry)) }
+    ensures within { OnOk result (StaysWithin (output_within limit)
+        (length (nodes_asked from count (query_of query.now.query) (lent_flat root.entry)))
+        (length (string_bytes memory.new.text))) }
+    ensures fault { IfErr result (IsGivenUp (output_within limit)
+        (length (nodes_asked from count (query_of query.now.query) (lent_flat root.entry)))
+        (length (answer_of from count form (query_of query.now.query) (lent_flat root.entry)))) }
     ensures spends { Spends result steps.old steps.new }
 {
     let mut walk = memory.walking.open(alloc)?;
@@ -254,6 +283,7 @@ fn walk(
         form,
         from,
         most(count),
+        limit.output(),
         root,
         query,
         &mut walk.rooms,
@@ -263,6 +293,6 @@ fn walk(
     memory.walking.close(walk);
     match pushed {
         Ok(()) => Ok(()),
-        Err(fault) => Err(FindFault::from(fault)),
+        Err(fault) => Err(given_up(fault)),
     }
 }

@@ -12,7 +12,7 @@ ghost use Rattle.jp_flat.specs.FlatValue.{document_in};
 use crate::handle::Handle;
 use crate::kept::Kept;
 use crate::lent::Lent;
-use crate::limit::steps_within;
+use crate::limit::{Limit, steps_within};
 use crate::numbers::form;
 use crate::outcome::{Outcome, Report};
 use jp_flat::Flat;
@@ -22,7 +22,7 @@ use std::alloc::Global;
 /// first `from` ones, or for as many of these as `count` says, where 0 is all. The text is lent from the
 /// handle until its next call. Where a call with the same query took enough memory before, this one takes
 /// none. Answers the report's status: 2 where the handle keeps no query, 6 where the evaluation needs more
-/// steps.
+/// steps than the limit allows, 8 where there are more nodes and 9 where their lines have more bytes.
 #[unsafe(no_mangle)]
 pub extern "C" fn jp_ask(
     alloc: Global,
@@ -31,11 +31,11 @@ pub extern "C" fn jp_ask(
     form: u32,
     from: u64,
     count: u64,
-    limit: u64,
+    limit: &Limit,
     text: &mut Lent,
     report: &mut Report,
 ) -> u32
-    ensures answers { AnswersLent (Within limit (IsAskOutcome form from count (kept_by query.old) document.now))
+    ensures answers { AnswersLent (Within limit.now (IsAskOutcome form from count (kept_by query.old) document.now))
         (kept_by query.new) text.new report.new result }
     ensures query { query_kept (kept_by query.new) ≡ query_kept (kept_by query.old) }
     ensures document { document_kept (kept_by query.new) ≡ document_kept (kept_by query.old) }
@@ -45,7 +45,7 @@ pub extern "C" fn jp_ask(
         form,
         from,
         count,
-        limit,
+        limit: *limit,
     };
     let (lent, told) = asked(alloc, &mut kept, Given::Bytes(document), wanted);
     *query = Handle::of_any(alloc, kept);
@@ -57,7 +57,7 @@ pub extern "C" fn jp_ask(
 /// Asks the query that one handle keeps of the document that the other does: a line for each node behind the
 /// first `from` ones, or for as many of these as `count` says, where 0 is all. The text is lent from the
 /// query's handle until its next call; both handles keep what they keep. Answers the report's status: 2 where
-/// a handle keeps nothing or the other of the two, 6 where the evaluation needs more steps.
+/// a handle keeps nothing or the other of the two, 6, 8 and 9 as of `jp_ask`.
 #[unsafe(no_mangle)]
 pub extern "C" fn jp_ask_document(
     alloc: Global,
@@ -66,12 +66,12 @@ pub extern "C" fn jp_ask_document(
     form: u32,
     from: u64,
     count: u64,
-    limit: u64,
+    limit: &Limit,
     text: &mut Lent,
     report: &mut Report,
 ) -> u32
     ensures answers { AnswersLent
-        (Within limit (IsAskDocumentOutcome form from count (kept_by query.old) (kept_by document.old)))
+        (Within limit.now (IsAskDocumentOutcome form from count (kept_by query.old) (kept_by document.old)))
         (kept_by query.new) text.new report.new result }
     ensures query { query_kept (kept_by query.new) ≡ query_kept (kept_by query.old) }
     ensures other { document_kept (kept_by query.new) ≡ document_kept (kept_by query.old) }
@@ -83,7 +83,7 @@ pub extern "C" fn jp_ask_document(
         form,
         from,
         count,
-        limit,
+        limit: *limit,
     };
     let (lent, told) = asked_of_other(alloc, &mut kept, &other, wanted);
     *query = Handle::of_any(alloc, kept);
@@ -93,13 +93,13 @@ pub extern "C" fn jp_ask_document(
     told.status
 }
 
-/// What is wanted: lines of the form of this number, for so many nodes behind the first ones, in so many steps.
+/// What is wanted: lines of the form of this number, for so many nodes behind the first ones, within a limit.
 #[derive(Clone, Copy)]
 struct Wanted {
     form: u32,
     from: u64,
     count: u64,
-    limit: u64,
+    limit: Limit,
 }
 
 /// What a query is asked of.
@@ -186,11 +186,19 @@ fn asked_of(alloc: Global, kept: &mut Kept, given: Given<'_>, wanted: Wanted) ->
     let Kept::Query(asker) = kept else {
         return usage();
     };
-    let mut steps = steps_within(wanted.limit);
+    let mut steps = steps_within(wanted.limit.steps);
     match given {
         Given::Bytes(document) => {
-            let answer = asker.ask(alloc, form, wanted.from, wanted.count, document, &mut steps);
-            let (answered, spare) = asker.answered(alloc, wanted.limit, steps, answer);
+            let answer = asker.ask(
+                alloc,
+                form,
+                wanted.from,
+                wanted.count,
+                document,
+                wanted.limit,
+                &mut steps,
+            );
+            let (answered, spare) = asker.answered(alloc, wanted.limit.steps, steps, answer);
             asker.tell(answered.placed(alloc, document, None), spare)
         }
         Given::Document(flat) => {
@@ -200,9 +208,10 @@ fn asked_of(alloc: Global, kept: &mut Kept, given: Given<'_>, wanted: Wanted) ->
                 wanted.from,
                 wanted.count,
                 flat.value(),
+                wanted.limit,
                 &mut steps,
             );
-            let (answered, spare) = asker.answered(alloc, wanted.limit, steps, answer);
+            let (answered, spare) = asker.answered(alloc, wanted.limit.steps, steps, answer);
             asker.tell(answered, spare)
         }
     }

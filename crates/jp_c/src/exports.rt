@@ -6,7 +6,7 @@ ghost use Rattle.jp_c.specs.Limit.{AtOnce, Within};
 ghost use Rattle.jp_c.specs.Outcome.{Answers};
 
 use crate::asked::{answer, asked, canonical};
-use crate::limit::steps_within;
+use crate::limit::{Limit, steps_within};
 use crate::numbers::{form, profile};
 use crate::outcome::{Answered, Outcome, Report, tell};
 use std::alloc::Global;
@@ -24,8 +24,8 @@ pub extern "C" fn jp_version() -> u32
 
 /// Writes a line for each node that the query selects in the document, in the nodelist's order (RFC
 /// 9535 section 2.1.2), in the form (0 values, 1 normalized paths, 2 both with a tab between) and
-/// the profile (0 `Standard`, 1 `Extended`) of these numbers, in at most `limit` steps, where 0 is no
-/// limit. Answers the report's status: 6 where the evaluation needs more steps.
+/// the profile (0 `Standard`, 1 `Extended`) of these numbers, within the limit. Answers the report's status: 6
+/// where the evaluation needs more steps, 8 where there are more nodes and 9 where their lines have more bytes.
 #[unsafe(no_mangle)]
 pub extern "C" fn jp_eval(
     alloc: Global,
@@ -33,14 +33,14 @@ pub extern "C" fn jp_eval(
     document: &[u8],
     form: u32,
     profile: u32,
-    limit: u64,
+    limit: &Limit,
     out: &mut [u8],
     report: &mut Report,
 ) -> u32
-    ensures { Answers (Within limit (IsEvalOutcome form profile query.now document.now))
+    ensures { Answers (Within limit.now (IsEvalOutcome form profile query.now document.now))
         out.old out.new report.new result }
 {
-    let answered = eval_outcome(alloc, query, document, form, profile, limit);
+    let answered = eval_outcome(alloc, query, document, form, profile, *limit);
     tell(&answered, out, report)
 }
 
@@ -51,7 +51,7 @@ fn eval_outcome(
     document: &[u8],
     form_number: u32,
     profile_number: u32,
-    limit: u64,
+    limit: Limit,
 ) -> Answered
     ensures { Within limit (IsEvalOutcome form_number profile_number query.now document.now)
         result.outcome result.steps }
@@ -62,9 +62,9 @@ fn eval_outcome(
     let Some(profile) = profile(profile_number) else {
         return Answered::at_once(Outcome::Usage);
     };
-    let mut steps = steps_within(limit);
-    let answer = answer(alloc, query, document, form, profile, &mut steps);
-    Answered::within(limit, steps, answer).placed(alloc, document, None)
+    let mut steps = steps_within(limit.steps);
+    let answer = answer(alloc, query, document, form, profile, limit, &mut steps);
+    Answered::within(limit.steps, steps, answer).placed(alloc, document, None)
 }
 
 /// Writes the canonical text of the query, read in the profile of this number (RFC 9535 sections 2.1

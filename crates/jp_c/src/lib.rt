@@ -8,8 +8,8 @@
 //! what a caller owes, which nothing checks.
 //!
 //! The contract of each: there is an `Outcome` of the kind that the definitions of the crates below
-//! allow (`specs/Calls.antt`), by no more steps than the call's limit (`specs/Limit.antt`), and the
-//! status, the report and the buffer are the ones of that outcome (`specs/Outcome.antt`); where bytes
+//! allow (`specs/Calls.antt`), within the call's limit of steps, nodes and bytes (`specs/Limit.antt`), and
+//! the status, the report and the buffer are the ones of that outcome (`specs/Outcome.antt`); where bytes
 //! that are no document go wrong (`specs/Misread.antt`); and what each handle keeps then
 //! (`specs/Handles.antt`).
 #![tactic(auto)]
@@ -20,8 +20,10 @@ mod asking;
 mod emptied;
 mod explained;
 mod exports;
+mod given_up;
 mod handle;
 mod held;
+mod keeping;
 mod kept;
 mod lent;
 mod limit;
@@ -32,7 +34,6 @@ mod names;
 mod numbers;
 mod outcome;
 mod refused;
-mod select;
 #[cfg(test)]
 mod tests;
 
@@ -41,10 +42,11 @@ pub use explained::{Part, jp_explain};
 pub use exports::{VERSION, jp_canon, jp_check, jp_eval, jp_version};
 pub use handle::Handle;
 pub use held::Held;
+pub use keeping::{jp_clear, jp_document_new, jp_query_new};
 pub use kept::{Asker, Kept};
 pub use lent::Lent;
+pub use limit::Limit;
 pub use many::{Question, jp_eval_many};
 pub use misread::{DocumentPart, Place, jp_explain_document};
 pub use names::jp_kind_name;
 pub use outcome::{Outcome, Report};
-pub use select::{jp_clear, jp_document_new, jp_query_new, jp_select};

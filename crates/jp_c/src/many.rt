@@ -10,7 +10,7 @@ ghost use Rattle.jp_c.specs.Private.Subjects.{IsAnswered, IsSound};
 ghost use Rattle.jp_c.specs.declared.outcome.Outcome.TheVariants.{Fault, Usage};
 
 use crate::asked::{answer_from, read_document};
-use crate::limit::steps_within;
+use crate::limit::{Limit, steps_within};
 use crate::numbers::{form, profile};
 use crate::outcome::{Answered, Outcome, Report, fill};
 use crate::refused::place_of;
@@ -43,13 +43,13 @@ pub extern "C" fn jp_eval_many(
     document: &[u8],
     form: u32,
     profile: u32,
-    limit: u64,
+    limit: &Limit,
     out: &mut [u8],
 ) -> usize
-    ensures { AnswersAll (λ query. Within limit (IsEvalOutcome form profile query document.now))
+    ensures { AnswersAll (λ query. Within limit.now (IsEvalOutcome form profile query document.now))
         queries.now questions.old questions.new out.old out.new result }
 {
-    let subject = Subject::read(alloc, document, form, profile, limit);
+    let subject = Subject::read(alloc, document, form, profile, *limit);
     let texts = answer_each(&subject, queries, questions);
     fill(texts.as_bytes(), out);
     texts.len()
@@ -65,11 +65,11 @@ struct Subject<'d> {
     place: Option<usize>,
     form: u32,
     profile: u32,
-    limit: u64,
+    limit: Limit,
 }
 
 impl<'d> Subject<'d> {
-    fn read(alloc: Global, document: &'d [u8], form: u32, profile: u32, limit: u64) -> Subject<'d>
+    fn read(alloc: Global, document: &'d [u8], form: u32, profile: u32, limit: Limit) -> Subject<'d>
         ensures document { result.document.now ≡ document.now }
         ensures form { result.form ≡ form }
         ensures profile { result.profile ≡ profile }
@@ -105,7 +105,7 @@ impl<'d> Subject<'d> {
         let Some(profile) = profile(self.profile) else {
             return Answered::at_once(Outcome::Usage);
         };
-        let mut steps = steps_within(self.limit);
+        let mut steps = steps_within(self.limit.steps);
         let answer = answer_from(
             self.alloc,
             query,
@@ -113,9 +113,10 @@ impl<'d> Subject<'d> {
             self.document,
             form,
             profile,
+            self.limit,
             &mut steps,
         );
-        let answered = Answered::within(self.limit, steps, answer);
+        let answered = Answered::within(self.limit.steps, steps, answer);
         answered.placed(self.alloc, self.document, self.place)
     }
 }

@@ -1,6 +1,7 @@
 //! Why bytes are no document, told to whoever wrote them.
 
 ghost use Rattle.std.specs.Prelude.{◌≡◌, ◌⊎◌, IfErr, IfOk, string_bytes};
+ghost use Rattle.jp_document.specs.Document.{IsDocumentFault};
 ghost use Rattle.jp_c.specs.Calls.{IsMisreadOutcome};
 ghost use Rattle.jp_c.specs.Limit.{AtOnce};
 ghost use Rattle.jp_c.specs.Misread.{ExplainsDocument, nowhere, part_text, place_of_misreading};
@@ -10,7 +11,9 @@ ghost use Rattle.jsonpath.specs.declared.fault.FindFault.TheVariants.{DocumentTo
 
 use crate::numbers::document_part;
 use crate::outcome::{Answered, Outcome, Report, tell};
-use jp_json::{Misreading, find_misreading};
+use jp_document::DocumentFault;
+use jp_held::read_flat;
+use jp_json::{Misreading, misreading_of};
 use jsonpath::{FindFault, check_size};
 use std::alloc::{AllocError, Global};
 
@@ -108,10 +111,25 @@ fn told_misreading(
         ⊎ ((fault ≡ DocumentTooLarge) × IsTooLarge document.now)) }
 {
     check_size(document)?;
-    match find_misreading(alloc, document)? {
-        Some(misreading) => Ok((part_text(alloc, part, &misreading)?, Place::of(&misreading))),
-        None => Ok((String::new(alloc), Place::nowhere())),
+    match read_flat(alloc, document) {
+        Ok(_) => Ok((String::new(alloc), Place::nowhere())),
+        Err(fault) => Ok(told_of(alloc, document, part, &fault)?),
     }
+}
+
+/// What is told of bytes that have this fault, and the place.
+fn told_of(
+    alloc: Global,
+    document: &[u8],
+    part: DocumentPart,
+    fault: &DocumentFault,
+) -> Result<(String, Place), AllocError>
+    requires { IsDocumentFault document.now fault.now }
+    ensures { IfOk result (λ told. ExplainsDocument part document.now (string_bytes told.0) told.1) }
+{
+    let misreading = misreading_of(alloc, document, fault)?;
+    let text = part_text(alloc, part, &misreading)?;
+    Ok((text, Place::of(&misreading)))
 }
 
 /// The text of a part of a misreading.

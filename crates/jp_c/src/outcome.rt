@@ -21,7 +21,7 @@ pub enum Outcome {
     Text(String),
     /// There is no form or no profile of the number that was given.
     Usage,
-    /// The query or the document is refused, memory ran out, or the steps are used up.
+    /// The query or the document is refused, memory ran out, the steps are used up, or too much would come out.
     Fault(FindFault),
     /// The bytes are no document, and go wrong at this one.
     Misread(DocumentFault, usize),
@@ -38,7 +38,8 @@ pub(crate) struct Answered {
 #[repr(C)]
 #[derive(Debug, Clone, Copy, PartialEq, Eq)]
 pub struct Report {
-    /// 0 done, 1 query refused, 2 usage, 3 document refused, 4 want of memory, 6 steps used up.
+    /// 0 done, 1 query refused, 2 usage, 3 document refused, 4 want of memory, 6 steps used up, 8 too many nodes,
+    /// 9 too many bytes.
     pub status: u32,
     /// The number of the query's kind of refusal or of the document's fault, else 0.
     pub kind: u32,
@@ -96,6 +97,8 @@ impl Outcome {
             Outcome::Fault(FindFault::DocumentTooLarge) => (3, TOO_LARGE, 0),
             Outcome::Fault(FindFault::NoMemory) => (4, 0, 0),
             Outcome::Fault(FindFault::StepsUsedUp) => (6, 0, 0),
+            Outcome::Fault(FindFault::TooManyNodes) => (8, 0, 0),
+            Outcome::Fault(FindFault::TooManyBytes) => (9, 0, 0),
         };
         Report {
             status,

@@ -1,25 +1,23 @@
 //! How a document that is refused is told: with the byte where it goes wrong.
 
 ghost use Rattle.std.specs.Prelude.{◌≡◌, IfOk, IfSome};
-ghost use Rattle.jp_document.specs.Document.{Defect, HasDefect};
+ghost use Rattle.jp_document.specs.Document.{IsDocumentFault};
 ghost use Rattle.jp_c.specs.Misread.{IsMisreadAt};
 ghost use Rattle.jp_c.specs.Private.Placing.{HasOfBytes, IsOfBytes, IsPlaced, IsTold};
 
 use crate::outcome::{Answered, Outcome};
 use jp_document::DocumentFault;
-use jp_json::find_misreading;
+use jp_json::misreading_of;
 use jsonpath::FindFault;
 use std::alloc::{AllocError, Global};
 
-/// The byte where bytes that are no document go wrong. They are read once more for it.
-fn misread_at(alloc: Global, document: &[u8]) -> Result<usize, AllocError>
-    requires { (x : Defect) × HasDefect document.now x }
+/// The byte where bytes that have this fault go wrong. They are read once more for it.
+fn misread_at(alloc: Global, document: &[u8], fault: &DocumentFault) -> Result<usize, AllocError>
+    requires { IsDocumentFault document.now fault.now }
     ensures { IfOk result (IsMisreadAt document.now) }
 {
-    match find_misreading(alloc, document)? {
-        Some(misreading) => Ok(misreading.offset),
-        None => unreachable!(),
-    }
+    let misreading = misreading_of(alloc, document, fault)?;
+    Ok(misreading.offset)
 }
 
 /// The byte where a document goes wrong that is refused so, if it is found.
@@ -28,7 +26,7 @@ pub(crate) fn place_of(alloc: Global, document: &[u8], fault: &FindFault) -> Opt
     ensures { IfSome result (IsMisreadAt document.now) }
 {
     match fault {
-        FindFault::Document(_) => misread_at(alloc, document).ok(),
+        FindFault::Document(fault) => misread_at(alloc, document, fault).ok(),
         _ => None,
     }
 }
@@ -46,7 +44,7 @@ pub(crate) fn refused(
     ensures { IsTold document.now fault result }
 {
     match fault {
-        FindFault::Document(fault) => match known_or_found(alloc, document, known) {
+        FindFault::Document(fault) => match known_or_found(alloc, document, &fault, known) {
             Ok(place) => Outcome::Misread(fault, place),
             Err(_) => Outcome::Fault(FindFault::NoMemory),
         },
@@ -54,15 +52,20 @@ pub(crate) fn refused(
     }
 }
 
-/// The byte where bytes that are no document go wrong, which may be known.
-fn known_or_found(alloc: Global, document: &[u8], known: Option<usize>) -> Result<usize, AllocError>
-    requires none { (x : Defect) × HasDefect document.now x }
+/// The byte where bytes that have this fault go wrong, which may be known.
+fn known_or_found(
+    alloc: Global,
+    document: &[u8],
+    fault: &DocumentFault,
+    known: Option<usize>,
+) -> Result<usize, AllocError>
+    requires fault { IsDocumentFault document.now fault.now }
     requires known { IfSome known (IsMisreadAt document.now) }
     ensures { IfOk result (IsMisreadAt document.now) }
 {
     match known {
         Some(place) => Ok(place),
-        None => misread_at(alloc, document),
+        None => misread_at(alloc, document, fault),
     }
 }
 

@@ -3,14 +3,29 @@
 mod asking;
 
 use crate::{
-    Handle, Place, Question, Report, jp_canon, jp_check, jp_clear, jp_document_new, jp_eval,
-    jp_eval_many, jp_explain, jp_explain_document, jp_kind_name, jp_query_new, jp_select,
-    jp_version,
+    Handle, Limit, Place, Question, Report, jp_canon, jp_check, jp_document_new, jp_eval,
+    jp_eval_many, jp_explain, jp_explain_document, jp_kind_name, jp_query_new, jp_version,
 };
 use std::alloc::Global;
 use std::test::Fail;
 
 const DOCUMENT: &[u8] = br#"{"a":[1,[2,{}]]}"#;
+
+/// No limit.
+const NONE: Limit = Limit {
+    steps: 0,
+    nodes: 0,
+    bytes: 0,
+};
+
+/// A limit of so many steps.
+fn steps(steps: u64) -> Limit {
+    Limit {
+        steps,
+        nodes: 0,
+        bytes: 0,
+    }
+}
 
 /// A report of a text of this length, for which so many steps were made.
 fn done(length: usize, steps: u64) -> Report {
@@ -39,7 +54,7 @@ fn evaluated(
         document,
         form,
         profile,
-        0,
+        &NONE,
         &mut out,
         &mut report,
     );
@@ -277,12 +292,162 @@ fn keeps_to_a_limit(rt: HostRuntime) {
             DOCUMENT,
             0,
             0,
-            limit,
+            &steps(limit),
             &mut out,
             &mut report,
         );
         assert_eq!(rt; report, expected);
     }
+}
+
+/// A query, how many nodes it selects in the document, and how many bytes the lines of their values have.
+const OUTPUTS: [(&[u8], u64, u64); 4] = [
+    (b"$.a[*]", 2, 9),
+    (b"$.a", 1, 11),
+    (b"$.b", 0, 0),
+    (b"$.a[0,0]", 2, 4),
+];
+
+#[test]
+fn gives_so_much_and_no_more(rt: HostRuntime) {
+    let alloc = rt.alloc();
+    for (query, nodes, bytes) in OUTPUTS {
+        let mut out = [b'#'; 16];
+        let mut report = done(9, 9);
+        let exact = Limit {
+            steps: 0,
+            nodes,
+            bytes,
+        };
+        jp_eval(alloc, query, DOCUMENT, 0, 0, &exact, &mut out, &mut report);
+        assert_eq!(rt; (report.status, report.length as u64), (0, bytes));
+        if nodes > 1 {
+            let fewer = Limit {
+                nodes: nodes - 1,
+                ..NONE
+            };
+            jp_eval(alloc, query, DOCUMENT, 0, 0, &fewer, &mut out, &mut report);
+            assert_eq!(rt;
+                (report.status, report.kind, report.place, report.length),
+                (8, 0, 0, 0)
+            );
+        }
+        if bytes > 1 {
+            let less = Limit {
+                bytes: bytes - 1,
+                ..NONE
+            };
+            let mut out = [b'#'; 16];
+            jp_eval(alloc, query, DOCUMENT, 0, 0, &less, &mut out, &mut report);
+            assert_eq!(rt;
+                (report.status, report.kind, report.place, report.length),
+                (9, 0, 0, 0)
+            );
+            assert_eq!(rt; out, [b'#'; 16]);
+        }
+    }
+}
+
+/// Of a query, a limit and what is told, which is what is found first on the way through the nodes: the steps of
+/// the second node are made before it is too many, and its line before that has too many bytes.
+const FIRST: [(&[u8], Limit, u32); 6] = [
+    (
+        b"$.a[*]",
+        Limit {
+            steps: 4,
+            nodes: 1,
+            bytes: 1,
+        },
+        6,
+    ),
+    (
+        b"$.a[*]",
+        Limit {
+            steps: 0,
+            nodes: 1,
+            bytes: 1,
+        },
+        9,
+    ),
+    (
+        b"$.a[*]",
+        Limit {
+            steps: 0,
+            nodes: 1,
+            bytes: 2,
+        },
+        8,
+    ),
+    (
+        b"$.a[*]",
+        Limit {
+            steps: 0,
+            nodes: 2,
+            bytes: 8,
+        },
+        9,
+    ),
+    (
+        b"$.a[0]",
+        Limit {
+            steps: 1,
+            nodes: 1,
+            bytes: 1,
+        },
+        9,
+    ),
+    (
+        b"$.a[01]",
+        Limit {
+            steps: 1,
+            nodes: 1,
+            bytes: 1,
+        },
+        1,
+    ),
+];
+
+#[test]
+fn tells_what_is_found_first(rt: HostRuntime) {
+    for (query, limit, status) in FIRST {
+        let mut out = [b'#'; 16];
+        let mut report = done(9, 9);
+        let told = jp_eval(
+            rt.alloc(),
+            query,
+            DOCUMENT,
+            0,
+            0,
+            &limit,
+            &mut out,
+            &mut report,
+        );
+        assert_eq!(rt; (told, report.length), (status, 0));
+    }
+}
+
+#[test]
+fn gives_each_question_so_many_nodes(rt: HostRuntime) {
+    let mut questions = [asked(0, 6), asked(6, 4), asked(0, 6)];
+    let mut out = [b'#'; 16];
+    let most = Limit { nodes: 1, ..NONE };
+    let queries = b"$.a[0]$..*";
+    let size = jp_eval_many(
+        rt.alloc(),
+        queries,
+        &mut questions,
+        DOCUMENT,
+        0,
+        0,
+        &most,
+        &mut out,
+    );
+    let statuses = (
+        questions[0].report.status,
+        questions[1].report.status,
+        questions[2].report.status,
+    );
+    assert_eq!(rt; (statuses, size), ((0, 8, 0), 4));
 }
 
 #[test]
@@ -297,7 +462,7 @@ fn gives_each_question_the_whole_limit(rt: HostRuntime) {
         DOCUMENT,
         0,
         0,
-        10,
+        &steps(10),
         &mut out,
     );
     for (question, report) in questions
@@ -331,7 +496,16 @@ fn answers_many_in_turn(rt: HostRuntime) {
         let mut out = [b'#'; 14];
         let (part, _) = out.split_at_mut(room);
         let queries = b"$.a[0]$.a[01]$.b$.a";
-        let size = jp_eval_many(rt.alloc(), queries, &mut questions, DOCUMENT, 0, 0, 0, part);
+        let size = jp_eval_many(
+            rt.alloc(),
+            queries,
+            &mut questions,
+            DOCUMENT,
+            0,
+            0,
+            &NONE,
+            part,
+        );
         assert_eq!(rt; size, 13);
         assert_eq!(rt; out.as_slice(), text);
         for (question, report) in questions.iter().zip(reports) {
@@ -351,7 +525,7 @@ fn answers_many_over_no_document(rt: HostRuntime) {
         b"[2.5]",
         0,
         0,
-        1,
+        &steps(1),
         &mut out,
     );
     assert_eq!(rt; size, 4);
@@ -374,43 +548,6 @@ fn kept(alloc: Global, query: &[u8]) -> Result<(Handle, Handle), Fail> {
         (0, 0) => Ok(handles),
         _ => Err("not kept")?,
     }
-}
-
-/// The status of a selection in form 2 and 10 steps with a buffer of 32 bytes, and the buffer.
-fn selected(alloc: Global, query: &mut Handle, document: &mut Handle) -> (u32, [u8; 32]) {
-    let mut out = [b'#'; 32];
-    let mut report = done(9, 9);
-    let status = jp_select(alloc, query, document, 2, 10, &mut out, &mut report);
-    (status, out)
-}
-
-#[test]
-fn selects_again_and_again(rt: HostRuntime) -> Result<(), Fail> {
-    let alloc = rt.alloc();
-    let (mut query, mut document) = kept(alloc, b"$.a[0]")?;
-    let lines = (0, *b"$['a'][0]\t1\n####################");
-    assert_eq!(rt; selected(alloc, &mut query, &mut document), lines);
-    assert_eq!(rt; selected(alloc, &mut query, &mut document), lines);
-    let mut report = done(9, 9);
-    jp_query_new(alloc, b"$.b", 0, &mut query, &mut report);
-    assert_eq!(rt; selected(alloc, &mut query, &mut document), (0, [b'#'; 32]));
-    jp_query_new(alloc, b"$..*", 0, &mut query, &mut report);
-    assert_eq!(rt; selected(alloc, &mut query, &mut document), (6, [b'#'; 32]));
-    Ok(())
-}
-
-#[test]
-fn selects_nothing_of_what_is_not_kept(rt: HostRuntime) -> Result<(), Fail> {
-    let alloc = rt.alloc();
-    let (mut query, mut document) = kept(alloc, b"$")?;
-    let none = (2, [b'#'; 32]);
-    assert_eq!(rt; selected(alloc, &mut document, &mut query), none);
-    jp_clear(alloc, &mut query);
-    assert_eq!(rt; selected(alloc, &mut query, &mut document), none);
-    jp_clear(alloc, &mut query);
-    jp_clear(alloc, &mut document);
-    assert_eq!(rt; selected(alloc, &mut query, &mut document), none);
-    Ok(())
 }
 
 #[test]

@@ -3,4 +3,5 @@ pub mod Cells
 pub mod Fields
 pub mod Rows
 pub mod Columns
+pub mod Limits
 pub mod Private

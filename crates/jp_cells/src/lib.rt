@@ -14,6 +14,7 @@
 #![tactic(auto)]
 
 mod columns;
+mod fault;
 mod field;
 mod row;
 mod style;
@@ -21,6 +22,7 @@ mod style;
 mod tests;
 
 pub use columns::{Room, push_columns};
+pub use fault::RowFault;
 pub use field::push_field;
 pub use row::{end_row, push_row, push_separator};
 pub use style::{Format, Style};

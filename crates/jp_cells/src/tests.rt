@@ -1,8 +1,9 @@
 //! Rows by the examples of RFC 4180, and the row of a document.
 
-use crate::{Format, Room, Style, push_columns, push_row};
+use crate::{Format, Room, RowFault, Style, push_columns, push_row};
 use jp_check::{Profile, read_query};
 use jp_held::Document;
+use jp_limit::OutputLimit;
 use jp_select::Steps;
 use std::alloc::Global;
 use std::test::Fail;
@@ -50,13 +51,14 @@ fn rows(rt: HostRuntime) -> Result<(), Fail> {
     Ok(())
 }
 
-/// The row of a document, and how many nodes its queries select.
-fn row_of(
+/// The row of a document, of no more than so much, and how many nodes its queries select.
+fn row_within(
     alloc: Global,
     style: Style,
+    limit: OutputLimit,
     queries: &[&str],
     document: &str,
-) -> Result<(String, u64), Fail> {
+) -> Result<Result<(String, u64), RowFault>, Fail> {
     let mut read = Vec::new(alloc);
     for query in queries {
         let query = read_query(alloc, query, Profile::Standard)
@@ -69,11 +71,51 @@ fn row_of(
     let mut steps = Steps::unlimited();
     let mut row = String::new(alloc);
     let root = document.value();
-    let pushed = push_columns(alloc, style, root, &read, &mut room, &mut steps, &mut row);
+    let pushed = push_columns(
+        alloc, style, limit, root, &read, &mut room, &mut steps, &mut row,
+    );
     match pushed {
-        Ok(count) => Ok((row, count)),
+        Ok(count) => Ok(Ok((row, count))),
+        Err(fault) => Ok(Err(fault)),
+    }
+}
+
+/// The row of a document, and how many nodes its queries select.
+fn row_of(
+    alloc: Global,
+    style: Style,
+    queries: &[&str],
+    document: &str,
+) -> Result<(String, u64), Fail> {
+    match row_within(alloc, style, OutputLimit::none(), queries, document)? {
+        Ok(made) => Ok(made),
         Err(_) => Err("no memory")?,
     }
+}
+
+#[test]
+fn limits(rt: HostRuntime) -> Result<(), Fail> {
+    let queries = ["$.a", "$.b[*]", "$.c"];
+    let document = r#"{"a":"x","b":[1,"2",[3]],"c":0}"#;
+    // The row in CSV is `"""x""","[1,""2"",[3]]",0`, and two bytes end it.
+    let table = [
+        (TABS, 5, 18, None),
+        (TABS, 4, 18, Some(RowFault::TooManyNodes)),
+        (TABS, 5, 17, Some(RowFault::TooManyBytes)),
+        (TABS, 0, 17, Some(RowFault::TooManyNodes)),
+        (CSV, 5, 27, None),
+        (CSV, 5, 26, Some(RowFault::TooManyBytes)),
+        (CSV, 1, 1, Some(RowFault::TooManyBytes)),
+    ];
+    for (style, nodes, bytes, wanted) in table {
+        let limit = OutputLimit {
+            nodes: Some(nodes),
+            bytes: Some(bytes),
+        };
+        let made = row_within(rt.alloc(), style, limit, &queries, document)?;
+        assert!(rt; made.err() == wanted);
+    }
+    Ok(())
 }
 
 #[test]

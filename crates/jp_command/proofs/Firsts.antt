@@ -1,5 +1,5 @@
 -- The first nodes, one after another.
-use Rattle.std.proofs.Common.{◌≡◌, ◌<◌, ℕ, zero, suc, ◌-◌, List, [], ◌∷◌, Option, Some, None, true, false}
+use Rattle.std.proofs.Common.{◌≡◌, ◌<◌, ℕ, zero, suc, ◌-◌, List, ◌∷◌, Option, Some, None, true}
 use Rattle.std.proofs.Common.{ap, arith, drop, option_map, refl, sym, take}
 use Rattle.jp_document.specs.Node.{Node}
 use Rattle.jp_command.specs.Private.Firsts.{is_more}

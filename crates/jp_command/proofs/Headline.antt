@@ -98,13 +98,12 @@ module _ (profile : Profile) {R W : Type 0} (remaining : R → Option (List ℕ)
   accepted-is_taken law form text i j o p q d Read is run = refl
   accepted-is_taken law form text i j o p q d Write is run = refl
 
-  -- what is answered was accepted
-  pub answered-is_accepted : (form : Form) (text bytes : List ℕ) (i j : R) (o p : W)
+  -- what there is an output of was accepted
+  pub output-is_accepted : (form : Form) (text bytes output : List ℕ) (i j : R)
       → remaining i ≡ Some bytes
-      → Ran form text i j o p (Ok tt)
+      → IsOutput profile remaining has_failed read_gives contents writes_failed form text i j output
       → (q : QueryTree) × (d : Value) × Accepted text i q d
-  answered-is_accepted form text bytes i j o p tells run =
-      let given = run.is in
+  output-is_accepted form text bytes output i j tells given =
       let same : given.bytes ≡ bytes = read-all i j bytes given.bytes tells given.reads in (
         given.q,
         given.d,
@@ -116,6 +115,14 @@ module _ (profile : Profile) {R W : Type 0} (remaining : R → Option (List ℕ)
           document = subst (λ b. IsDocument b given.d) same given.document;
         },
       )
+
+  -- and so was what is answered
+  pub answered-is_accepted : (form : Form) (text bytes : List ℕ) (i j : R) (o p : W)
+      → remaining i ≡ Some bytes
+      → Ran form text i j o p (Ok tt)
+      → (q : QueryTree) × (d : Value) × Accepted text i q d
+  answered-is_accepted form text bytes i j o p tells run =
+      output-is_accepted form text bytes run.output i j tells run.is
 
   -- what a run of an accepted pair writes is the lines of its nodelist
   pub output-is_that : DocumentOrDefect → ((text : List ℕ) → OneAnswer profile text)

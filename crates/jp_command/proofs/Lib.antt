@@ -10,9 +10,10 @@ pub mod Explaining
 pub mod Shown
 pub mod LineLemmas
 pub mod Firsts
+pub mod Limited
 mod Flushes
-pub mod FoundLines
 pub mod Headline
 pub mod Program
+mod Finished
 pub mod Fronts
 pub mod Standard

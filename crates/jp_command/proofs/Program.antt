@@ -24,7 +24,7 @@ use Rattle.jp_command.specs.Line.{TellsExplained, TellsMisread, misread, status_
 use Rattle.jp_command.specs.Limits.{document_limit}
 use Rattle.jp_command.specs.Lines.{output_of}
 use Rattle.jp_command.specs.Output.{AppendsPrefix, WritesPrefix}
-use Rattle.jp_command.specs.Program.{AskFor, FailsAtItsStreams, IsPair, ProgramRun, RefusesItsDocument}
+use Rattle.jp_command.specs.Program.{AskFor, IsPair, ProgramRun, RefusesItsDocument}
 use Rattle.jp_command.specs.Program.{RefusesItsQuery, RefusesItsWords, TellsLine, WritesText, in_part}
 use Rattle.jp_command.specs.Program.{large, whole}
 use Rattle.jp_command.specs.Program as program
@@ -41,7 +41,7 @@ use Rattle.jp_command.proofs.Headline.{accepted-is_taken, answered-is_accepted, 
 use Rattle.jp_command.proofs.Headline.{output-is_that, writes-nodelist}
 
 -- the status of a fault is one from 1 to 5, and not 2
-fault-is_told : (f : Fault) → status_of f ≡ 0 → ⊥
+pub fault-is_told : (f : Fault) → status_of f ≡ 0 → ⊥
 fault-is_told (Query r) is = omega (arith, is)
 fault-is_told _ is = omega (arith, is)
 
@@ -66,28 +66,28 @@ prefix-none contents o p text same = record {
 module _ {R W E : Type 0} (remaining : R → Option (List ℕ)) (has_failed : R → Bool)
     (read_gives : R → Option (List ℕ) → R → Type 0) (contents : W → Option (List ℕ))
     (writes_failed : W → Bool) (write_takes : W → Option (List ℕ) → W → Type 0)
-    (reports : E → Option (List ℕ)) where
-  abbrev It : Type 0
-  It = ProgramRun remaining has_failed read_gives contents writes_failed write_takes reports
+    (holds_back : W → Bool) (reports : E → Option (List ℕ)) where
+  abbrev pub It : Type 0
+  It = ProgramRun remaining has_failed read_gives contents writes_failed write_takes holds_back reports
 
-  abbrev Ran : Profile → Task → List ℕ → It → Result (Unit {0}) Fault → Type 0
+  abbrev pub Ran : Profile → Task → List ℕ → It → Result (Unit {0}) Fault → Type 0
   Ran profile task text it =
       RunsTask profile remaining has_failed read_gives contents writes_failed task text it.i it.j
       it.o it.p
 
-  abbrev Ended : Profile → It → Result (Unit {0}) Fault → Type 0
+  abbrev pub Ended : Profile → It → Result (Unit {0}) Fault → Type 0
   Ended profile it =
       RunsWords profile remaining has_failed read_gives contents writes_failed write_takes it.words
       it.i it.j it.o it.p
 
   abbrev Writes : It → List ℕ → Type 0
-  Writes = WritesText remaining has_failed read_gives contents writes_failed write_takes reports
+  Writes = WritesText remaining has_failed read_gives contents writes_failed write_takes holds_back reports
 
   abbrev Pair : Profile → List ℕ → It → QueryTree → Value → Type 0
-  Pair = IsPair remaining has_failed read_gives contents writes_failed write_takes reports
+  Pair = IsPair remaining has_failed read_gives contents writes_failed write_takes holds_back reports
 
-  abbrev Told : It → Fault → Type 0
-  Told = TellsLine remaining has_failed read_gives contents writes_failed write_takes reports
+  abbrev pub Told : It → Fault → Type 0
+  Told = TellsLine remaining has_failed read_gives contents writes_failed write_takes holds_back reports
 
   -- how a run ends whose words ask for a task
   pub data Ends (profile : Profile) (task : Task) (text : List ℕ) (it : It) : Type 0 where
@@ -107,10 +107,10 @@ module _ {R W E : Type 0} (remaining : R → Option (List ℕ)) (has_failed : R 
 
   pub how-ends : (profile : Profile) (task : Task) (text : List ℕ) (explains : Bool) (it : It)
       → AskFor it.words task text profile explains
-      → RunsLine remaining has_failed read_gives contents writes_failed write_takes reports it.words
+      → RunsLine remaining has_failed read_gives contents writes_failed write_takes holds_back reports it.words
       it.i it.j it.o it.p it.u it.v it.status
       → Ends profile task text it
-  how-ends profile task text explains it asks (done other is run quiet) =
+  how-ends profile task text explains it asks (done other is run handed quiet) =
       well is quiet (same-task profile other task text explains it (Ok tt) asks run)
   how-ends profile task text explains it asks (fault other f is run told) =
       badly f is (same-task profile other task text explains it (Err f) asks run)
@@ -253,7 +253,7 @@ module _ {R W E : Type 0} (remaining : R → Option (List ℕ)) (has_failed : R 
     not-document (badly Write is run) = inr (inr is)
     not-document (early is read same) = inr (inl is)
 
-  task-asked : (profile : Profile) (task : Task) (text : List ℕ) (it : It)
+  pub task-asked : (profile : Profile) (task : Task) (text : List ℕ) (it : It)
       → Ran profile task text it (Ok tt) → (q : QueryTree) × IsAsked profile text q
   task-asked profile Check text it run = (run.1.is.q, run.1.is.asked)
   task-asked profile Canon text it run = (run.1.is.q, run.1.is.asked)
@@ -302,7 +302,7 @@ module _ {R W E : Type 0} (remaining : R → Option (List ℕ)) (has_failed : R 
 
   abbrev QueryRefused : It → Type 0
   QueryRefused = RefusesItsQuery remaining has_failed read_gives contents writes_failed write_takes
-      reports
+      holds_back reports
 
   refused-so : (profile : Profile) (it : It) (r : Refusal) (run : Ended profile it (Err (Query r)))
       → Told it (Query r) ⊎ ((run.explains ≡ true)
@@ -319,12 +319,12 @@ module _ {R W E : Type 0} (remaining : R → Option (List ℕ)) (has_failed : R 
     tells = told;
   }
 
-  abbrev Says : It → Type 0
-  Says it = RunsLine remaining has_failed read_gives contents writes_failed write_takes reports
+  abbrev pub Says : It → Type 0
+  Says it = RunsLine remaining has_failed read_gives contents writes_failed write_takes holds_back reports
       it.words it.i it.j it.o it.p it.u it.v it.status
 
   one-so : (it : It) → Says it → it.status ≡ 1 → QueryRefused it
-  one-so it (done profile is run quiet) one = absurd (omega (arith, is, one))
+  one-so it (done profile is run handed quiet) one = absurd (omega (arith, is, one))
   one-so it (fault profile (Query r) is run told) one = refused-so profile it r run (inl told)
   one-so it (fault profile _ is run told) one = absurd (omega (arith, is, one))
   one-so it (explained profile r is run asks told) one =
@@ -339,10 +339,10 @@ module _ {R W E : Type 0} (remaining : R → Option (List ℕ)) (has_failed : R 
   -- status 2
   abbrev WordsRefused : It → Type 0
   WordsRefused = RefusesItsWords remaining has_failed read_gives contents writes_failed write_takes
-      reports
+      holds_back reports
 
   two-so : (it : It) → Says it → it.status ≡ 2 → WordsRefused it
-  two-so it (done profile is run quiet) two = absurd (omega (arith, is, two))
+  two-so it (done profile is run handed quiet) two = absurd (omega (arith, is, two))
   two-so it (fault profile f is run told) two = absurd (fault-is_no_usage f (sym is ∙ two))
   two-so it (explained profile r is run asks told) two = absurd (omega (arith, is, two))
   two-so it (misread profile d is run asks refused told) two = absurd (omega (arith, is, two))
@@ -353,7 +353,7 @@ module _ {R W E : Type 0} (remaining : R → Option (List ℕ)) (has_failed : R 
   two-is_usage it two = two-so it it.says two
 
   none-so : (it : It) → Says it → asked it.words ≡ None → (it.status ≡ 2) ⊎ (it.status ≡ 4)
-  none-so it (done profile is run quiet) none = absurd (none-some _ (sym none ∙ run.asks))
+  none-so it (done profile is run handed quiet) none = absurd (none-some _ (sym none ∙ run.asks))
   none-so it (fault profile f is run told) none = absurd (none-some _ (sym none ∙ run.asks))
   none-so it (explained profile r is run asks told) none =
       absurd (none-some _ (sym none ∙ run.asks))
@@ -368,7 +368,7 @@ module _ {R W E : Type 0} (remaining : R → Option (List ℕ)) (has_failed : R 
   -- status 3
   abbrev DocumentRefused : It → Type 0
   DocumentRefused = RefusesItsDocument remaining has_failed read_gives contents writes_failed
-      write_takes reports
+      write_takes holds_back reports
 
   document-so : (profile : Profile) (task : Task) (text : List ℕ) (explains : Bool) (it : It)
       (d : DocumentFault) → AskFor it.words task text profile explains
@@ -399,7 +399,7 @@ module _ {R W E : Type 0} (remaining : R → Option (List ℕ)) (has_failed : R 
       large form text profile explains asks run told
 
   three-so : (it : It) → Says it → it.status ≡ 3 → DocumentRefused it
-  three-so it (done profile is run quiet) three = absurd (omega (arith, is, three))
+  three-so it (done profile is run handed quiet) three = absurd (omega (arith, is, three))
   three-so it (fault profile (Document d) is run told) three =
       document-so profile run.task run.query run.explains it d run.asks run.runs told
   three-so it (fault profile DocumentTooLarge is run told) three =
@@ -416,7 +416,7 @@ module _ {R W E : Type 0} (remaining : R → Option (List ℕ)) (has_failed : R 
 
   -- status 4
   four-so : (it : It) → Says it → it.status ≡ 4 → Told it NoMemory
-  four-so it (done profile is run quiet) four = absurd (omega (arith, is, four))
+  four-so it (done profile is run handed quiet) four = absurd (omega (arith, is, four))
   four-so it (fault profile NoMemory is run told) four = told
   four-so it (fault profile _ is run told) four = absurd (omega (arith, is, four))
   four-so it (explained profile r is run asks told) four = absurd (omega (arith, is, four))
@@ -427,41 +427,9 @@ module _ {R W E : Type 0} (remaining : R → Option (List ℕ)) (has_failed : R 
   pub four-is_memory : (it : It) → it.status ≡ 4 → Told it NoMemory
   four-is_memory it four = four-so it it.says four
 
-  -- status 5
-  task-unread : (profile : Profile) (task : Task) (text : List ℕ) (it : It)
-      → Ran profile task text it (Err Read) → has_failed it.j ≡ true
-  task-unread profile Check text it run = absurd run.1
-  task-unread profile Canon text it run = absurd run.1
-  task-unread profile (Eval form) text it run = run.1.fails
-
-  task-unwritten : (profile : Profile) (task : Task) (text : List ℕ) (it : It)
-      → Ran profile task text it (Err Write) → writes_failed it.p ≡ true
-  task-unwritten profile Check text it run = run.1.1
-  task-unwritten profile Canon text it run = run.1.1
-  task-unwritten profile (Eval form) text it run = run.1
-
-  abbrev StreamsFail : It → Type 0
-  StreamsFail = FailsAtItsStreams remaining has_failed read_gives contents writes_failed write_takes
-      reports
-
-  five-so : (it : It) → Says it → it.status ≡ 5 → StreamsFail it
-  five-so it (done profile is run quiet) five = absurd (omega (arith, is, five))
-  five-so it (fault profile Read is run told) five =
-      inl (task-unread profile run.task run.query it run.runs, told)
-  five-so it (fault profile Write is run told) five =
-      inr (task-unwritten profile run.task run.query it run.runs, told)
-  five-so it (fault profile _ is run told) five = absurd (omega (arith, is, five))
-  five-so it (explained profile r is run asks told) five = absurd (omega (arith, is, five))
-  five-so it (misread profile d is run asks refused told) five = absurd (omega (arith, is, five))
-  five-so it (usage is none read written told) five = absurd (omega (arith, is, five))
-  five-so it (memory is read written told) five = absurd (omega (arith, is, five))
-
-  pub five-is_streams : (it : It) → it.status ≡ 5 → StreamsFail it
-  five-is_streams it five = five-so it it.says five
-
   -- no other
   within-so : (it : It) → Says it → it.status ≤ 5
-  within-so it (done profile is run quiet) = omega (arith, is)
+  within-so it (done profile is run handed quiet) = omega (arith, is)
   within-so it (fault profile f is run told) =
       let most : status_of f ≤ 5 = fault-is_within f in omega (arith, is, most)
   within-so it (explained profile r is run asks told) = omega (arith, is)

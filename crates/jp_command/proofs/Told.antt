@@ -1,14 +1,16 @@
 -- What the program says of a fault: its line, or that of a refused query or document with an explanation.
 use Rattle.std.proofs.Common.{◌≡◌, ◌⊎◌, ◌∙◌, inl, inr, ℕ, Bool, true, List, Option, Err, subst, sym}
 use Rattle.jp_check.specs.declared.profile.Profile.{Profile}
+use Rattle.jp_document.specs.Document.{IsDocumentFault}
 use Rattle.jp_document.specs.declared.fault.DocumentFault.{DocumentFault}
 use Rattle.jp_command.specs.Line.{EndsAs, RunsLine, TellsExplained, TellsMisread, explained, fault}
 use Rattle.jp_command.specs.Line.{fault_line, misread, status_of}
 use Rattle.jp_command.specs.Output.{AppendsPrefix}
 use Rattle.jp_command.specs.Private.Asked.{TellsFault, line_alone, with_explanation, with_misreading}
-use Rattle.jp_command.specs.Private.Kept.{KeepsRead}
+use Rattle.jp_command.specs.Private.Kept.{IsFaultOfBytes, KeepsRead}
 use Rattle.jp_command.specs.declared.fault.Fault.{Fault}
-use Rattle.jp_command.specs.declared.fault.Fault.TheVariants.{Query, Document}
+use Rattle.jp_command.specs.declared.fault.Fault.TheVariants.{Query, Document, DocumentTooLarge}
+use Rattle.jp_command.specs.declared.fault.Fault.TheVariants.{NoMemory, Read, Write}
 use Rattle.jp_query.specs.declared.refusal.Refusal.{Refusal}
 
 -- what is told of a refused query that the words ask to explain
@@ -30,17 +32,32 @@ tells-document old new explains profile query bytes d f is asks (inl prefix) = l
 tells-document old new explains profile query bytes d f is asks (inr told) =
     with_misreading d is asks (subst (λ g. TellsMisread bytes g old new) is told)
 
+-- what is kept of a run is what the document's fault is of
+module _ {R W : Type 0} (profile : Profile) (remaining : R → Option (List ℕ)) (has_failed : R → Bool)
+    (read_gives : R → Option (List ℕ) → R → Type 0) (contents : W → Option (List ℕ))
+    (writes_failed : W → Bool) (query : List ℕ) (i j : R) (bytes read : List ℕ) where
+  pub kept-of_bytes : (f : Fault) → bytes ≡ read
+      → KeepsRead profile remaining has_failed read_gives contents writes_failed query i j read f
+      → IsFaultOfBytes bytes f
+  kept-of_bytes (Document d) all kept =
+      subst (λ t. IsDocumentFault t d) (sym (all ∙ kept.1)) kept.0.fault
+  kept-of_bytes (Query r) all kept = tt
+  kept-of_bytes DocumentTooLarge all kept = tt
+  kept-of_bytes NoMemory all kept = tt
+  kept-of_bytes Read all kept = tt
+  kept-of_bytes Write all kept = tt
+
 module _ {R W E : Type 0} (remaining : R → Option (List ℕ)) (has_failed : R → Bool)
     (read_gives : R → Option (List ℕ) → R → Type 0) (contents : W → Option (List ℕ))
     (writes_failed : W → Bool) (write_takes : W → Option (List ℕ) → W → Type 0)
-    (reports : E → Option (List ℕ)) (words : List (List ℕ)) (i j : R) (o p : W) (u v : E)
+    (holds_back : W → Bool) (reports : E → Option (List ℕ)) (words : List (List ℕ)) (i j : R) (o p : W) (u v : E)
     (status : ℕ) where
   abbrev Ended : Profile → Fault → Type 0
   Ended profile f = EndsAs remaining has_failed read_gives contents writes_failed write_takes
       profile words i j o p (Err f)
 
   abbrev Says : Type 0
-  Says = RunsLine remaining has_failed read_gives contents writes_failed write_takes reports
+  Says = RunsLine remaining has_failed read_gives contents writes_failed write_takes holds_back reports
       words i j o p u v status
 
   abbrev Keeps : Profile → List ℕ → List ℕ → Fault → Type 0

@@ -1,6 +1,7 @@
 -- The files of definitions.
 pub mod Limits
 pub mod Device
+pub mod Buffered
 pub mod Reads
 pub mod Input
 pub mod Output

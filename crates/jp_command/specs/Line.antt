@@ -1,7 +1,7 @@
 -- What the program says with its status: the status and the line of each fault, what a task's run
 -- says, and `RunsLine`, which the clause of `run_line` cites.
-use Rattle.std.specs.Prelude.{◌≡◌, ℕ, Bool, true, List, ◌++◌, Option, Some, None, Result, Ok, Err}
-use Rattle.std.specs.Prelude.{codes}
+use Rattle.std.specs.Prelude.{◌≡◌, ℕ, Bool, true, false, List, ◌++◌, Option, Some, None, Result, Ok}
+use Rattle.std.specs.Prelude.{Err, codes}
 use Rattle.jp_check.specs.declared.profile.Profile.{Profile}
 use Rattle.jp_document.specs.Faults.{document_fault_name}
 use Rattle.jp_document.specs.declared.fault.DocumentFault.{DocumentFault}
@@ -110,31 +110,32 @@ module _ {R W : Type 0} (remaining : R → Option (List ℕ)) (has_failed : R �
   EndsAs profile =
       RunsWords profile remaining has_failed read_gives contents writes_failed write_takes
 
-  -- what is said with a status; u and v are what takes the fault's line, before and after. Behind
-  -- that of a refused query stands an explanation only where the words ask for it, and behind that of
-  -- a refused document how the bytes that were read are misread; and then unless memory ran out for
-  -- it. Where the words are not ones that the command line takes, clap's text is told, of which its
-  -- contract says nothing
-  pub data RunsLine {E : Type 0} (reports : E → Option (List ℕ)) (words : List (List ℕ))
-      (i j : R) (o p : W) (u v : E) (status : ℕ) : Type 0 where
-    done : (profile : Profile) → status ≡ 0 → EndsAs profile words i j o p (Ok tt) → v ≡ u
-        → RunsLine reports words i j o p u v status
+  -- what is said with a status; u and v are what takes the fault's line, before and after, and
+  -- `holds_back` tells whether the output may hold back some of what it took. Behind the line of a
+  -- refused query stands an explanation only where the words ask for it, and behind that of a refused
+  -- document how the bytes that were read are misread; and then unless memory ran out for it. Where
+  -- the words are not ones that the command line takes, clap's text is told, of which its contract
+  -- says nothing
+  pub data RunsLine (holds_back : W → Bool) {E : Type 0} (reports : E → Option (List ℕ))
+      (words : List (List ℕ)) (i j : R) (o p : W) (u v : E) (status : ℕ) : Type 0 where
+    done : (profile : Profile) → status ≡ 0 → EndsAs profile words i j o p (Ok tt)
+        → holds_back p ≡ false → v ≡ u → RunsLine holds_back reports words i j o p u v status
     fault : (profile : Profile) (f : Fault) → status ≡ status_of f
         → EndsAs profile words i j o p (Err f)
         → AppendsPrefix (reports u) (reports v) (fault_line f)
-        → RunsLine reports words i j o p u v status
+        → RunsLine holds_back reports words i j o p u v status
     explained : (profile : Profile) (r : Refusal) → status ≡ status_of (Query r)
         → (run : EndsAs profile words i j o p (Err (Query r))) → run.explains ≡ true
         → TellsExplained profile run.query r (reports u) (reports v)
-        → RunsLine reports words i j o p u v status
+        → RunsLine holds_back reports words i j o p u v status
     misread : (profile : Profile) (f : DocumentFault) → status ≡ status_of (Document f)
         → (run : EndsAs profile words i j o p (Err (Document f))) → run.explains ≡ true
         → (refused : RefusesDocument profile remaining has_failed read_gives contents writes_failed
         run.query i j f)
         → TellsMisread refused.bytes (Document f) (reports u) (reports v)
-        → RunsLine reports words i j o p u v status
+        → RunsLine holds_back reports words i j o p u v status
     usage : status ≡ 2 → asked words ≡ None → j ≡ i → p ≡ o
-        → AppendsSome (reports u) (reports v) → RunsLine reports words i j o p u v status
+        → AppendsSome (reports u) (reports v) → RunsLine holds_back reports words i j o p u v status
     memory : status ≡ 4 → j ≡ i → p ≡ o
         → AppendsPrefix (reports u) (reports v) (fault_line NoMemory)
-        → RunsLine reports words i j o p u v status
+        → RunsLine holds_back reports words i j o p u v status

@@ -1,7 +1,5 @@
--- What the contracts of private functions alone cite: what words ask for, how much of a document is
--- read, lines written as nodes are found, the front of paths, what a line shows of a node, how runs
+-- What the contracts of private functions alone cite: what words ask for, lines written as nodes are found, the front of paths, what a line shows of a node, how runs
 -- stop, and what they keep then.
-pub mod Answers
 pub mod AsFound
 pub mod Asked
 pub mod Faults

@@ -1,7 +1,10 @@
 -- What the program `jp` does, from its words to its status: what they ask for, and what is written
 -- and told with each status. The headline is one of the sentences. Each is about the runs of which
--- `RunsLine` tells, as the contract of `run_line` says of every run of the program.
-use Rattle.std.specs.Prelude.{◌≡◌, ◌⊎◌, ℕ, ◌≤◌, Bool, true, List, length, Option, Some, None}
+-- `RunsLine` tells, as the contract of `run_line` says of every run of the program. A sentence with bytes
+-- of the input in its premise, or of the output or of what takes reports in what it says, is about
+-- streams that tell their bytes. The process's own tell none: of them it is said which calls were made,
+-- in what order, and which of them failed.
+use Rattle.std.specs.Prelude.{◌≡◌, ◌⊎◌, ℕ, ◌≤◌, Bool, true, false, List, length, Option, Some, None}
 use Rattle.std.specs.Io.KnownBytes.{Appends}
 use Rattle.jp_check.specs.declared.profile.Profile.{Profile}
 use Rattle.jp_document.specs.Document.{IsDocument}
@@ -13,11 +16,13 @@ use Rattle.jp_command.specs.Canon.{canon_line}
 use Rattle.jp_command.specs.Check.{accepted_line}
 use Rattle.jp_command.specs.CommandLine.{asked}
 use Rattle.jp_command.specs.Headline.{Headline, IsAcceptedPair, Refuses, RefusesLarge, RefusesRead}
-use Rattle.jp_command.specs.Line.{RunsLine, TellsExplained, TellsMisread, fault_line}
+use Rattle.jp_command.specs.Input.{FailsToRead, ReadsAll}
+use Rattle.jp_command.specs.Line.{IsWrittenBy, RunsLine, TellsExplained, TellsMisread, fault_line}
 use Rattle.jp_command.specs.Limits.{document_limit}
 use Rattle.jp_command.specs.Lines.{output_of}
 use Rattle.jp_command.specs.Output.{AppendsPrefix, AppendsSome}
 use Rattle.jp_command.specs.Run.{IsAsked}
+use Rattle.jp_command.specs.Writes.{GoByCalls, GoesToAFailure}
 use Rattle.jp_command.specs.declared.fault.Fault.{Fault}
 use Rattle.jp_command.specs.declared.fault.Fault.TheVariants.{Query, Document, DocumentTooLarge}
 use Rattle.jp_command.specs.declared.fault.Fault.TheVariants.{NoMemory, Read, Write}
@@ -32,7 +37,7 @@ AskFor words task text profile explains = asked words ≡ Some (task, text, prof
 module _ {R W E : Type 0} (remaining : R → Option (List ℕ)) (has_failed : R → Bool)
     (read_gives : R → Option (List ℕ) → R → Type 0) (contents : W → Option (List ℕ))
     (writes_failed : W → Bool) (write_takes : W → Option (List ℕ) → W → Type 0)
-    (reports : E → Option (List ℕ)) where
+    (holds_back : W → Bool) (reports : E → Option (List ℕ)) where
   -- a run of the program: its words and its status; the input before and after it, the output, and
   -- what takes the lines of faults
   pub record ProgramRun : Type 0 where
@@ -44,8 +49,8 @@ module _ {R W E : Type 0} (remaining : R → Option (List ℕ)) (has_failed : R 
     pub p : W
     pub u : E
     pub v : E
-    pub says : RunsLine remaining has_failed read_gives contents writes_failed write_takes reports
-        words i j o p u v status
+    pub says : RunsLine remaining has_failed read_gives contents writes_failed write_takes holds_back
+        reports words i j o p u v status
 
   -- a prefix of the fault's line is told, and nothing else
   abbrev pub TellsLine : ProgramRun → Fault → Type 0
@@ -101,10 +106,74 @@ module _ {R W E : Type 0} (remaining : R → Option (List ℕ)) (has_failed : R 
   RefusesItsWords it = (asked it.words ≡ None) × (it.j ≡ it.i) × (it.p ≡ it.o)
       × AppendsSome (reports it.u) (reports it.v)
 
-  -- the input or the output failed, and that is told
+  -- the words ask for this task of an accepted query
+  pub record AskForAccepted (it : ProgramRun) (task : Task) (text : List ℕ) (profile : Profile)
+      : Type 0 where
+    pub explains : Bool
+    pub asks : AskFor it.words task text profile explains
+    pub q : QueryTree
+    pub accepted : IsAsked profile text q
+
+  -- no accepted query is asked for, by these words in any profile
+  abbrev pub AskForNone : ProgramRun → Type 0
+  AskForNone it = (task : Task) (text : List ℕ) (profile : Profile)
+      → AskForAccepted it task text profile → ⊥
+
+  -- this is what that task writes
+  abbrev pub IsOutputOf : ProgramRun → Task → List ℕ → Profile → List ℕ → Type 0
+  IsOutputOf it task text profile =
+      IsWrittenBy profile remaining has_failed read_gives contents writes_failed task text it.i it.j
+
+  -- what a task reads: for nodes the input to its end, else nothing
+  abbrev pub ReadsFor : ProgramRun → Task → Type 0
+  ReadsFor it Check = it.j ≡ it.i
+  ReadsFor it Canon = it.j ≡ it.i
+  ReadsFor it (Eval form) =
+      (bytes : List ℕ) × ReadsAll remaining has_failed read_gives it.i it.j bytes
+
+  -- An accepted query is asked for; what its task reads was read, and no read failed; its output went to
+  -- its end, by calls of which none failed, and nothing of it is held back; and nothing is told.
+  pub record FinishesItsTask (it : ProgramRun) : Type 0 where
+    pub task : Task
+    pub text : List ℕ
+    pub profile : Profile
+    pub asks : AskForAccepted it task text profile
+    pub reads : ReadsFor it task
+    pub output : List ℕ
+    pub is : IsOutputOf it task text profile output
+    pub goes : GoByCalls write_takes it.o it.p output
+    pub works : writes_failed it.p ≡ writes_failed it.o
+    pub handed_on : holds_back it.p ≡ false
+    pub quiet : it.v ≡ it.u
+
+  -- the nodes of an accepted query are asked for; a read failed, the last that was made, and that is
+  -- told; nothing is written
+  pub record FailsToReadItsInput (it : ProgramRun) : Type 0 where
+    pub form : Form
+    pub text : List ℕ
+    pub profile : Profile
+    pub asks : AskForAccepted it (Eval form) text profile
+    pub fails : FailsToRead remaining has_failed read_gives it.i it.j
+    pub unwritten : it.p ≡ it.o
+    pub tells : TellsLine it Read
+
+  -- an accepted query is asked for, and what its task reads was read; a call of the output failed, the
+  -- last that was made, and before it a prefix went of what the task writes; that is told
+  pub record FailsToWriteItsOutput (it : ProgramRun) : Type 0 where
+    pub task : Task
+    pub text : List ℕ
+    pub profile : Profile
+    pub asks : AskForAccepted it task text profile
+    pub reads : ReadsFor it task
+    pub output : List ℕ
+    pub is : IsOutputOf it task text profile output
+    pub goes : GoesToAFailure write_takes it.o it.p output
+    pub fails : writes_failed it.p ≡ true
+    pub tells : TellsLine it Write
+
+  -- the input or the output failed
   abbrev pub FailsAtItsStreams : ProgramRun → Type 0
-  FailsAtItsStreams it = ((has_failed it.j ≡ true) × TellsLine it Read)
-      ⊎ ((writes_failed it.p ≡ true) × TellsLine it Write)
+  FailsAtItsStreams it = FailsToReadItsInput it ⊎ FailsToWriteItsOutput it
 
   pub record Program : Type 0 where
     -- What runs answer and write is what the headline says of them, in each profile.
@@ -136,12 +205,14 @@ module _ {R W E : Type 0} (remaining : R → Option (List ℕ)) (has_failed : R 
         → AskFor it.words Check text profile explains
         → IsAsked profile text q
         → (it.j ≡ it.i) × WritesText it (accepted_line q)
-    -- Whatever they ask for, with status 0 the query is accepted;
+    -- Whatever they ask for, with status 0 the query is accepted,
     pub done : (it : ProgramRun) (task : Task) (text : List ℕ) (profile : Profile)
         (explains : Bool)
         → AskFor it.words task text profile explains
         → it.status ≡ 0
         → (q : QueryTree) × IsAsked profile text q
+    -- and all is read and written, to the last byte;
+    pub finished : (it : ProgramRun) → it.status ≡ 0 → FinishesItsTask it
     -- a query that is not has status 1, unless memory runs out,
     pub not_accepted : (it : ProgramRun) (task : Task) (text : List ℕ) (profile : Profile)
         (explains : Bool)
@@ -167,6 +238,20 @@ module _ {R W E : Type 0} (remaining : R → Option (List ℕ)) (has_failed : R 
     -- which says that the document is refused. Status 4 says that memory ran out,
     pub refused_document : (it : ProgramRun) → it.status ≡ 3 → RefusesItsDocument it
     pub exhausted : (it : ProgramRun) → it.status ≡ 4 → TellsLine it NoMemory
-    -- status 5 that the input or the output failed; and no run has another status.
+    -- and that no call of the input or of the output failed:
+    pub exhausted_alone : (it : ProgramRun) → it.status ≡ 4
+        → (has_failed it.j ≡ has_failed it.i) × (writes_failed it.p ≡ writes_failed it.o)
+    -- nothing is read or written then where no accepted query is asked for,
+    pub exhausted_unasked : (it : ProgramRun) → it.status ≡ 4 → AskForNone it
+        → (it.j ≡ it.i) × (it.p ≡ it.o)
+    -- and nothing is written where the bytes are no document, or too many.
+    pub exhausted_unwritten : (it : ProgramRun) (form : Form) (text bytes : List ℕ)
+        (profile : Profile) (explains : Bool)
+        → AskFor it.words (Eval form) text profile explains
+        → remaining it.i ≡ Some bytes
+        → ((d : Value) → IsDocument bytes d → length bytes ≤ document_limit → ⊥)
+        → it.status ≡ 4
+        → it.p ≡ it.o
+    -- Status 5 says that the input or the output failed; and no run has another status.
     pub failed : (it : ProgramRun) → it.status ≡ 5 → FailsAtItsStreams it
     pub statuses : (it : ProgramRun) → it.status ≤ 5

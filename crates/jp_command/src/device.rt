@@ -4,7 +4,8 @@ ghost use Rattle.std.specs.Prelude.{◌≡◌, ◌≢◌, ℕ, ◌<◌, ◌≤�
 ghost use Rattle.std.specs.Prelude.{OnOk, OnErr, Some, None, length, ⊤};
 ghost use Rattle.std.specs.Io.KnownBytes.{ReadConsumes, WriteAppends, Keeps};
 ghost use Rattle.std.specs.IoError.{error_kind};
-ghost use Rattle.jp_command.specs.Device.{carried, carrier_failed, carrier_hung_up};
+ghost use Rattle.jp_command.specs.Device.{carried, carrier_failed, carrier_holds_back, carrier_hung_up};
+ghost use Rattle.jp_command.specs.Device.{size_carried};
 ghost use Rattle.jp_command.specs.Reads.{bytes_moved};
 
 use std::io::{Error, ErrorKind, Read, Write};
@@ -24,6 +25,14 @@ pub trait Source {
     // What leads from one state to the next where a read gave these bytes, or failed (None): so a
     // contract can speak of each call.
     ghost read_gives: { Self → Option (List ℕ) → Self → Type 0 } = { λ _ _ _. ⊤ };
+
+    // How many bytes it says that it has, 0 where it says nothing.
+    ghost size_told: { Self → ℕ } = { λ _. 0 };
+
+    /// How many bytes it says that it has, 0 where it says nothing. More or fewer may come, so this is only
+    /// for taking memory.
+    fn size_told(&self) -> usize
+        ensures { result ≡ size_told self.now };
 
     /// Reads some bytes to the start of `buffer` and answers how many; 0 only at the end of the
     /// bytes or for a buffer without room. `Failed` where they can't be read.
@@ -77,6 +86,9 @@ pub trait Writer {
 /// What bytes are written to and handed on from. Only the whole program flushes (`run_line`); a run
 /// takes a `Writer`, and so it can't.
 pub trait Output: Writer {
+    // Whether it may hold back some of the bytes that it took.
+    ghost holds_back: { Self → Bool };
+
     /// Hands on what a buffer still holds. `Failed` where it can't be written.
     fn flush(&mut self) -> Result<(), Failed>
         ensures bytes { Keeps (Self.contents self.old) (Self.contents self.new) }
@@ -84,17 +96,21 @@ pub trait Output: Writer {
         ensures fails { OnErr result (Self.has_failed self.new ≡ true) }
         ensures done { OnOk result (Self.write_takes self.old (Some []) self.new) }
         ensures stopped { OnErr result (Self.write_takes self.old None self.new) }
+        ensures handed_on { OnOk result (Self.holds_back self.new ≡ false) }
         ensures reader { OnOk result (Self.hung_up self.new ≡ Self.hung_up self.old) };
 }
 
 /// Carries any reader or writer of std and keeps whether a call of it failed, and whether a write or a
 /// flush failed because its reader hung up (`ErrorKind::BrokenPipe`). A write that takes none of the bytes
-/// it is given fails.
+/// it is given fails. What it carries may hold back some of what it took from a write on to the next flush
+/// that does not fail.
 #[derive(Drop)]
 pub struct Device<T> {
-    inner: T,
+    pub(crate) inner: T,
     failed: bool,
     hung_up: bool,
+    pub(crate) holds_back: bool,
+    pub(crate) size: usize,
 }
 
 impl<T> Device<T> {
@@ -103,12 +119,26 @@ impl<T> Device<T> {
         ensures carries { carried result ≡ inner }
         ensures fresh { carrier_failed result ≡ false }
         ensures reader { carrier_hung_up result ≡ false }
+        ensures empty { carrier_holds_back result ≡ false }
     {
         Device {
             inner,
             failed: false,
             hung_up: false,
+            holds_back: false,
+            size: 0,
         }
+    }
+
+    /// This device, which says that it has so many bytes, as a file does.
+    pub fn with_size(self, size: usize) -> Device<T>
+        ensures size { size_carried result ≡ size }
+        ensures carries { carried result ≡ carried self }
+        ensures failed { carrier_failed result ≡ carrier_failed self }
+        ensures reader { carrier_hung_up result ≡ carrier_hung_up self }
+        ensures held { carrier_holds_back result ≡ carrier_holds_back self }
+    {
+        Device { size, ..self }
     }
 
     /// What it carries.
@@ -130,7 +160,7 @@ impl<T> Device<T> {
     }
 
     /// Keeps that a write or a flush failed with this error.
-    fn fail_by<X>(&mut self, error: &Error) -> Result<X, Failed>
+    pub(crate) fn fail_by<X>(&mut self, error: &Error) -> Result<X, Failed>
         ensures failed { carrier_failed self.new ≡ true }
         ensures hung_up { error_kind error.now ≡ ErrorKind.BrokenPipe → carrier_hung_up self.new ≡ true }
         ensures others { error_kind error.now ≢ ErrorKind.BrokenPipe
@@ -149,6 +179,12 @@ impl<T: Read> Source for Device<T> {
     ghost remaining = { λ device. T.Read.remaining (carried device) };
 
     ghost has_failed = { carrier_failed };
+
+    ghost size_told = { size_carried };
+
+    fn size_told(&self) -> usize {
+        self.size
+    }
 
     fn read(&mut self, buffer: &mut [u8]) -> Result<usize, Failed> {
         match self.inner.read(buffer) {
@@ -170,6 +206,7 @@ impl<T: Write> Writer for Device<T> {
     ghost hung_up = { carrier_hung_up };
 
     fn write(&mut self, bytes: &[u8]) -> Result<usize, Failed> {
+        self.holds_back = true;
         match self.inner.write(bytes) {
             Ok(count) if count > 0 || bytes.is_empty() => Ok(count),
             Ok(_) => self.fail(),
@@ -187,9 +224,14 @@ impl<T: Write> Writer for Device<T> {
 }
 
 impl<T: Write> Output for Device<T> {
+    ghost holds_back = { carrier_holds_back };
+
     fn flush(&mut self) -> Result<(), Failed> {
         match self.inner.flush() {
-            Ok(()) => Ok(()),
+            Ok(()) => {
+                self.holds_back = false;
+                Ok(())
+            }
             Err(error) => self.fail_by(&error),
         }
     }

@@ -1,12 +1,11 @@
 //! A run of a query over an input.
 
 ghost use Rattle.std.specs.Prelude.{◌⊎◌, IfErr, IfOk, OnOk};
-ghost use Rattle.jp_document.specs.Document.{IsDocumentFault};
 ghost use Rattle.jp_tree.specs.Views.{query_of};
-ghost use Rattle.jp_command.specs.Lines.{output_of};
+ghost use Rattle.jp_evaluate.specs.Plan.{nodes_read};
+ghost use Rattle.jp_command.specs.Lines.{lines_of, output_of};
 ghost use Rattle.jp_command.specs.Output.{StopsWriting, WritesAll};
 ghost use Rattle.jp_command.specs.Private.Kept.{KeepsRead};
-ghost use Rattle.jp_command.specs.Private.Answers.{IsReadToAnswer};
 ghost use Rattle.jp_command.specs.Run.{IsAsked, IsOutput, RanOut, RefusesQuery, RunsEval};
 ghost use Rattle.jp_command.specs.Writes.{GoesAs, WritesByCalls};
 
@@ -17,10 +16,8 @@ use crate::input::read_all;
 use crate::limits::QUERY_LIMIT;
 use crate::lines::{Form, Spare, write_selected};
 use jp_check::{Checked, Profile, read_query};
-use jp_document::DocumentFault;
-use jp_evaluate::{asked_by, named_location};
-use jp_flat::{Flat, found_value};
-use jp_held::{read_asked, read_flat, read_value_at};
+use jp_evaluate::Plan;
+use jp_held::Excerpt;
 use jp_lent::Selectable;
 use jp_query::{Refusal, RefusalKind};
 use std::alloc::Global;
@@ -36,8 +33,8 @@ use std::alloc::Global;
 /// or the output failed: a call that fails is not tried again. `NoMemory` says that memory ran out,
 /// at whatever step. After `Write` and `NoMemory` a prefix of the output is written.
 ///
-/// Where the query names a location, the value there is found while the document is read; for other
-/// queries the document is read into tables.
+/// Of the document so much is read into tables as the query's plan says: where it names a location, the
+/// value there alone.
 pub fn run_eval<R: Source, W: Writer>(
     alloc: Global,
     query: &str,
@@ -84,38 +81,34 @@ pub(crate) fn run_eval_keeping<R: Source, W: Writer>(
     let query = read_within_limit(alloc, query, profile)?;
     let bytes = read_all(alloc, input)?;
     *kept = bytes;
-    let mut spare = Spare::new(alloc);
-    match named_location(alloc, &query)? {
-        Some(location) => {
-            let found = read_value_at(alloc, kept.as_slice(), &location)?;
-            let value = found_value(&found);
-            write_found(alloc, form, "", &location, value, &mut spare.line, output)
-        }
-        None => {
-            let flat = read_to_answer(alloc, &query, kept.as_slice())?;
-            write_output(alloc, form, flat.value(), &query, &mut spare, output)
-        }
-    }
+    let plan = Plan::of(alloc, &query)?;
+    let read = plan.read(alloc, kept.as_slice())?;
+    write_read(alloc, form, &query, &read, output)
 }
 
-/// The document that these bytes are, in tables, or so much of it as the query asks for; else what is
-/// wrong with them.
-fn read_to_answer<'t>(
+/// Writes the lines of all nodes that a query has in what was read of a document for it.
+fn write_read<W: Writer>(
     alloc: Global,
+    form: Form,
     query: &Checked,
-    bytes: &'t [u8],
-) -> Result<Flat<'t>, DocumentFault>
-    ensures ok { IfOk result (IsReadToAnswer (query_of query.now.query) bytes.now) }
-    ensures fault { IfErr result (IsDocumentFault bytes.now) }
+    read: &Excerpt<'_, '_, '_>,
+    output: &mut W,
+) -> Result<(), Fault>
+    ensures ok { OnOk result (WritesAll W.contents W.has_failed output.old output.new
+        (lines_of form (nodes_read (query_of query.now.query) read.now))) }
+    ensures stopped { IfErr result (StopsWriting W.contents W.has_failed output.old output.new
+        (lines_of form (nodes_read (query_of query.now.query) read.now))) }
+    ensures calls { GoesAs W.write_takes output.old output.new
+        (lines_of form (nodes_read (query_of query.now.query) read.now)) result }
 {
-    match asked_by(alloc, query)? {
-        Some(asked) => {
-            let flat = read_asked(alloc, bytes, &asked)?;
-            Ok(flat)
+    let mut spare = Spare::new(alloc);
+    match read {
+        Excerpt::Document(flat) => {
+            write_output(alloc, form, flat.value(), query, &mut spare, output)
         }
-        None => {
-            let flat = read_flat(alloc, bytes)?;
-            Ok(flat)
+        Excerpt::Value(location, found) => {
+            let value = found.value();
+            write_found(alloc, form, "", location, value, &mut spare.line, output)
         }
     }
 }

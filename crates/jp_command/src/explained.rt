@@ -5,6 +5,7 @@ ghost use Rattle.jp_command.specs.Explained.{IsExplanation};
 ghost use Rattle.jp_command.specs.Line.{IsExplainedLine, IsMisreadLine, TellsExplained, TellsMisread};
 ghost use Rattle.jp_command.specs.Line.{fault_line};
 ghost use Rattle.jp_command.specs.Output.{AppendsPrefix};
+ghost use Rattle.jp_command.specs.Private.Kept.{IsFaultOfBytes};
 ghost use Rattle.jp_command.specs.declared.fault.Fault.TheVariants.{Query};
 
 use crate::device::Writer;
@@ -13,7 +14,7 @@ use crate::line::report;
 use crate::output::write_all;
 use jp_check::Profile;
 use jp_explain::{Reason, explain, explanation_text};
-use jp_json::find_misreading;
+use jp_json::misreading_of;
 use jp_query::{Refusal, RefusalKind};
 use std::alloc::{AllocError, Global};
 
@@ -84,6 +85,7 @@ pub(crate) fn report_misreading<E: Writer>(
     bytes: &[u8],
     faults: &mut E,
 )
+    requires { IsFaultOfBytes bytes.now fault.now }
     ensures { AppendsPrefix (E.contents faults.old) (E.contents faults.new) (fault_line fault.now)
         ⊎ TellsMisread bytes.now fault.now (E.contents faults.old) (E.contents faults.new) }
 {
@@ -95,13 +97,17 @@ pub(crate) fn report_misreading<E: Writer>(
     }
 }
 
-/// The line of a fault, and behind it why and where the bytes are no document; None where they are one.
+/// The line of a fault, and behind it why and where the bytes are no document; None where it is another fault.
 fn misread_line(alloc: Global, fault: &Fault, bytes: &[u8]) -> Result<Option<String>, AllocError>
+    requires { IsFaultOfBytes bytes.now fault.now }
     ensures { IfOk result (λ found. IfSome found
         (λ text. IsMisreadLine bytes.now fault.now (string_bytes text))) }
 {
-    match find_misreading(alloc, bytes)? {
-        Some(misreading) => Ok(Some(format!(in alloc; "{fault}\n{misreading}\n")?)),
-        None => Ok(None),
+    match fault {
+        Fault::Document(refused) => {
+            let misreading = misreading_of(alloc, bytes, refused)?;
+            Ok(Some(format!(in alloc; "{fault}\n{misreading}\n")?))
+        }
+        _ => Ok(None),
     }
 }

@@ -1,6 +1,7 @@
 //! Reading an input to its end.
 
 ghost use Rattle.std.specs.Prelude.{◌≡◌, ◌≤◌, ◌+◌, IfOk, IfErr, OnErr, OnOk, drop, take, true, vec_len};
+ghost use Rattle.std.specs.Prelude.{[]};
 ghost use Rattle.std.specs.Io.KnownBytes.{ReadConsumes};
 ghost use Rattle.jp_command.specs.Input.{ReadsAll};
 ghost use Rattle.jp_command.specs.Limits.{chunk_size, document_limit};
@@ -28,7 +29,7 @@ pub(crate) fn read_all<R: Source>(alloc: Global, input: &mut R) -> Result<Vec<u8
     ensures stopped { IfErr result
         (StopsReading R.remaining R.has_failed R.read_gives input.old input.new) }
 {
-    let mut bytes = Vec::new(alloc);
+    let mut bytes = room_for(alloc, input.size_told());
     let mut count = 0;
     'chunks: loop {
         make_room(&mut bytes, count)?;
@@ -44,6 +45,18 @@ pub(crate) fn read_all<R: Source>(alloc: Global, input: &mut R) -> Result<Vec<u8
         }
         count += more;
     }
+}
+
+/// No bytes, with room for an input that says that it has so many, and for one read more. Where there is no
+/// memory for that, room is taken as bytes come.
+fn room_for(alloc: Global, size: usize) -> Vec<u8>
+    ensures { result.items ≡ [] }
+{
+    let mut bytes = Vec::new(alloc);
+    if size > 0 {
+        let _ = bytes.reserve_exact(size.min(DOCUMENT_LIMIT) + CHUNK_SIZE);
+    }
+    bytes
 }
 
 /// Room for one read behind so many bytes. The only error is that memory ran out.

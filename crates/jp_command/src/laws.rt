@@ -41,7 +41,7 @@ pub fn headline<R: Source, W: Writer>()
 /// written, what is told of a fault, and the status from 0 to 5; and in each profile the headline.
 pub fn program<R: Source, W: Output, E: Writer>()
     ensures { Program R.remaining R.has_failed R.read_gives W.contents W.has_failed W.write_takes
-        E.contents }
+        W.holds_back E.contents }
 {
     headline::<R, W>();
 }

@@ -32,11 +32,12 @@ mod line;
 mod lines;
 mod output;
 mod selecting;
+mod selection_fault;
 #[cfg(test)]
 mod tests;
 mod words;
 
-pub use buffer::{buffered, unbuffered};
+pub use buffer::{BufferedOutput, buffered, unbuffered};
 pub use canon::run_canon;
 pub use check::run_check;
 pub use device::{Device, Failed, Output, Source, Writer};
@@ -47,9 +48,11 @@ pub use fault::Fault;
 pub use found::{lines_at, push_found, write_found};
 pub use help::CommandHelp;
 pub use input::chunk_buffer;
+pub use jp_limit::OutputLimit;
 pub use limits::{DOCUMENT_LIMIT, QUERY_LIMIT};
 pub use line::{refuse_words, report, run_line, status};
 pub use lines::{Form, SelectedLines, Spare, selected_lines, write_selected};
 pub use output::write_all;
 pub use selecting::{Rooms, push_selected};
+pub use selection_fault::{SelectionFault, check_output};
 pub use words::{is_set, profile_asked, query_command, with_flag};

@@ -1,11 +1,11 @@
 //! The whole program over its words.
 
-ghost use Rattle.std.specs.Prelude.{◌≡◌, ◌≢◌, IfErr, IfOk, map, string_bytes};
+ghost use Rattle.std.specs.Prelude.{◌≡◌, ◌≢◌, IfErr, IfOk, OnOk, false, map, string_bytes};
 ghost use Rattle.std.specs.Cow.{cow_str_bytes};
 ghost use Rattle.clap.specs.Words.{kind_of};
 ghost use Rattle.jp_command.specs.Line.{IsWrittenBy, RunsLine, RunsTask, fault_line, status_of};
 ghost use Rattle.jp_command.specs.Private.Asked.{TellsFault};
-ghost use Rattle.jp_command.specs.Private.Kept.{KeepsRead};
+ghost use Rattle.jp_command.specs.Private.Kept.{IsFaultOfBytes, KeepsRead};
 ghost use Rattle.jp_command.specs.Writes.{WritesByCalls};
 ghost use Rattle.jp_command.specs.Output.{AppendsPrefix, AppendsSome};
 
@@ -37,8 +37,8 @@ pub fn run_line<R: Source, W: Output, E: Writer>(
     faults: &mut E,
 ) -> u8
     ensures { RunsLine R.remaining R.has_failed R.read_gives W.contents W.has_failed W.write_takes
-        E.contents (map string_bytes words.items) input.old input.new output.old output.new
-        faults.old faults.new result }
+        W.holds_back E.contents (map string_bytes words.items) input.old input.new output.old
+        output.new faults.old faults.new result }
 {
     match read_words(alloc, &words) {
         Ok(asked) => {
@@ -72,6 +72,7 @@ fn run_and_flush<R: Source, W: Output>(
         input.old input.new) output.old output.new result }
     ensures kept { IfErr result (KeepsRead asked.now.profile R.remaining R.has_failed R.read_gives
         W.contents W.has_failed asked.now.query.now input.old input.new kept.new.items) }
+    ensures handed_on { OnOk result (W.holds_back output.new ≡ false) }
 {
     run_task(alloc, asked, input, kept, output)?;
     match output.flush() {
@@ -108,6 +109,7 @@ fn run_task<R: Source, W: Writer>(
 /// Writes the line of a fault, and behind it, where the words ask for that and the query or the
 /// document, of these bytes, is refused, why it is.
 fn tell<E: Writer>(alloc: Global, asked: &Asked<'_>, fault: &Fault, bytes: &[u8], faults: &mut E)
+    requires { IsFaultOfBytes bytes.now fault.now }
     ensures { TellsFault (E.contents faults.old) (E.contents faults.new) asked.now.is_explaining
         asked.now.profile asked.now.query.now bytes.now fault.now }
 {

@@ -8,10 +8,11 @@ ghost use Rattle.jp_command.specs.Writes.{GoesAs};
 ghost use Rattle.jp_command.specs.Private.AsFound.{WritesAsFound};
 ghost use Rattle.jp_command.specs.Private.Fronts.{ComesAlong, IsAlong, path_in_line, text_after_path};
 ghost use Rattle.jp_command.specs.Private.Shown.{GivesShown, KeepsShown};
-ghost use Rattle.jp_command.specs.Selecting.{first_nodes};
+ghost use Rattle.jp_command.specs.Selecting.{IsBeyond, StopsOnlySpent, first_nodes};
 ghost use Rattle.jp_evaluate.specs.Lent.{given_node, has_failed, place_of, rest_of, steps_of};
 ghost use Rattle.jp_evaluate.specs.Nodelist.{nodelist};
 ghost use Rattle.jp_evaluate.specs.Stopping.{StopsSpent};
+ghost use Rattle.jp_limit.specs.OutputLimit.{StaysWithin};
 ghost use Rattle.jp_select.specs.Steps.{Takes};
 ghost use Rattle.jp_tree.specs.Views.{query_of};
 
@@ -20,9 +21,11 @@ use crate::fault::Fault;
 use crate::front::Front;
 use crate::output::write_all;
 use crate::selecting::push_rest;
+use crate::selection_fault::SelectionFault;
 use jp_check::Checked;
 use jp_evaluate::{EvaluationFault, LentNodes, Patterns, lent_nodes_with};
 use jp_lent::{Selectable, push_raw, push_value};
+use jp_limit::OutputLimit;
 use jp_match::Marks;
 use jp_select::Steps;
 use std::alloc::{AllocError, Global};
@@ -119,31 +122,40 @@ pub struct SelectedLines {
 /// nodelist's order (RFC 9535 section 2.1.2), each behind the text `lead`, and how many there are: of all,
 /// or of as many as `most` says, with which the evaluation stops. The evaluation takes from `steps` those
 /// that it makes; what was read of the patterns is kept for the next document. The errors are that memory
-/// ran out, or that there are more nodes than 2^64 - 1, and that the steps are used up.
+/// ran out, or that there are more nodes than 2^64 - 1, that the steps are used up, and that there are more such
+/// nodes than `limit` says, or that their lines have more bytes. Then no more than one line is made behind
+/// those that the limit is for.
 #[tactic(auto, using(crate::proofs::Fronts::along_none))]
 pub fn selected_lines<'d: 'q, 'q, V: Selectable + 'd>(
     alloc: Global,
     form: Form,
     lead: &str,
     most: Option<u64>,
+    limit: OutputLimit,
     root: V,
     query: &'q Checked,
     patterns: &mut Patterns,
     steps: &mut Steps,
-) -> Result<SelectedLines, EvaluationFault>
+) -> Result<SelectedLines, SelectionFault>
     ensures lines { IfOk result (λ lines. string_bytes lines.text
         ≡ flat_map (line_behind lead.now form)
         (first_nodes most (nodelist (query_of query.now.query) (V.meaning root)))) }
     ensures count { IfOk result (λ lines. lines.count
         ≡ length (first_nodes most (nodelist (query_of query.now.query) (V.meaning root)))) }
+    ensures within { IfOk result (λ lines.
+        StaysWithin limit lines.count (length (string_bytes lines.text))) }
+    ensures beyond { IfErr result (IsBeyond limit
+        (length (first_nodes most (nodelist (query_of query.now.query) (V.meaning root))))
+        (length (flat_map (line_behind lead.now form)
+        (first_nodes most (nodelist (query_of query.now.query) (V.meaning root)))))) }
     ensures takes { Takes steps.old steps.new }
-    ensures stopped { StopsSpent result steps.new }
+    ensures stopped { StopsOnlySpent result steps.new }
 {
     let read = mem::replace(patterns, Patterns::new(alloc));
     let mut nodes = lent_nodes_with(alloc, root, query, &Marks, read, *steps);
     let mut text = String::new(alloc);
     let mut front = Front::new(alloc);
-    let pushed = push_rest(form, lead, most, &mut nodes, &mut front, &mut text);
+    let pushed = push_rest(form, lead, most, limit, &mut nodes, &mut front, &mut text);
     let (read, left) = nodes.into_parts();
     *patterns = read;
     *steps = left;

@@ -1,9 +1,13 @@
 //! From a reading of `serde_json` to a value.
+//!
+//! That reading is a tree of its own, which takes some thirty times the memory of a text. So bytes
+//! that are no JSON text are refused before it is made.
 
-ghost use Rattle.std.specs.Prelude.{◌≡◌, ◌&&◌, map, Some, true, IfOk, IfErr};
+ghost use Rattle.std.specs.Prelude.{◌≡◌, ◌&&◌, ◌↔◌, map, Some, true, IfOk, IfErr, IsSome, IsTrue};
 ghost use Rattle.serde_json.specs.View.{view, number_view, items_view, members_view};
 ghost use Rattle.jp_document.specs.Document.{IsDocument, IsDocumentFault, value_of_data};
 ghost use Rattle.jp_document.specs.Document.{items_of_data, members_of_data};
+ghost use Rattle.jp_document.specs.Private.JsonText.{json_of};
 ghost use Rattle.jp_document.specs.Private.ValueFault.{IsValueFaultOf};
 ghost use Rattle.serde_json.specs.Data.{number as number_data, array, object};
 ghost use Rattle.jp_document.specs.Value.{value_of, list, items_of, members_of};
@@ -15,15 +19,25 @@ use crate::location::OwnedStep;
 use crate::value::{Json, Member};
 use crate::value_fault::ValueFault;
 use jp_reading::LARGEST_EXACT;
+use json::{Reader, Scratch};
 use serde_json::{Map, Number, Value};
 use std::alloc::{AllocError, Global};
+
+/// How many levels of lists and objects `serde_json` reads inside one another.
+const LEVELS: usize = 127;
 
 /// The value that `serde_json` parses from bytes that are a document, else what is wrong with them.
 pub fn parsed_value(alloc: Global, bytes: &[u8]) -> Result<Json, DocumentFault>
     ensures ok { IfOk result (λ j. IsDocument bytes.now (value_of j)) }
     ensures fault { IfErr result (IsDocumentFault bytes.now) }
 {
-    let parsed = match Value::from_slice(alloc, bytes) {
+    let Ok(text) = simdutf8::basic::from_utf8(bytes) else {
+        return Err(DocumentFault::NotJson);
+    };
+    if !is_json(alloc, text)? {
+        return Err(DocumentFault::NotJson);
+    }
+    let parsed = match Value::from_str(alloc, text) {
         Ok(parsed) => parsed,
         Err(error) if error.is_memory() => return Err(DocumentFault::NoMemory),
         Err(_) => return Err(DocumentFault::NotJson),
@@ -38,6 +52,17 @@ pub fn parsed_value(alloc: Global, bytes: &[u8]) -> Result<Json, DocumentFault>
     } else {
         Err(DocumentFault::ListTooLong)
     }
+}
+
+/// Whether a text is JSON, with as many levels as `serde_json` reads. It makes no tree, and takes memory for the
+/// text alone.
+#[inline(never)]
+fn is_json(alloc: Global, text: &str) -> Result<bool, AllocError>
+    ensures { IfOk result (λ is. IsTrue is ↔ IsSome (json_of text.now)) }
+{
+    let mut scratch = Scratch::new(alloc);
+    let mut reader = Reader::new(text, &mut scratch)?;
+    Ok(reader.skip_value(LEVELS).is_ok() && reader.next().is_none())
 }
 
 /// The value of a reading. The texts move over, and members come in the order of their names.

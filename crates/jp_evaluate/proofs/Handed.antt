@@ -1,5 +1,5 @@
 -- What goes from one evaluation to the next.
-use Rattle.std.proofs.Common.{◌≡◌, Bool, true, false, List, [], ◌∷◌, filter, inl, inr, refl, ap}
+use Rattle.std.proofs.Common.{◌≡◌, Bool, List, [], ◌∷◌, filter, inl, inr, refl, ap}
 use Rattle.std.proofs.lemmas.Bool.{cases_Bool}
 
 -- to choose twice by one test is to choose once

@@ -5,4 +5,5 @@ pub mod Items
 pub mod Members
 pub mod Plain
 pub mod Queries
+pub mod Root
 pub mod Told

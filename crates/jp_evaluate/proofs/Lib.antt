@@ -5,6 +5,7 @@ pub mod Matching
 pub mod Nodelists
 pub mod Parts
 pub mod Paths
+mod Plans
 pub mod Rows
 pub mod Settling
 pub mod Walks

@@ -10,3 +10,4 @@ pub mod Repeats
 pub mod Sets
 pub mod Sides
 pub mod Standing
+pub mod Steps

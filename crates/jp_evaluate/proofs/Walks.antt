@@ -3,10 +3,13 @@ pub mod Advances
 pub mod Begun
 pub mod Capped
 pub mod Choices
+pub mod Costs
 pub mod Given
 pub mod Kept
 pub mod Leaves
 pub mod Listed
+pub mod Locations
+pub mod Paying
 pub mod Reaching
 pub mod Selects
 pub mod Skipping

@@ -3,6 +3,9 @@
 pub mod Asked
 pub mod Asks
 pub mod Calls
+pub mod Compared
+pub mod Due
+pub mod LocationSet
 pub mod Meanings
 pub mod OnlyNode
 pub mod PathTrees

@@ -10,9 +10,12 @@ ghost use Rattle.jp_evaluate.specs.Private.Asks.{asks_selector, asks_selectors, 
 mod filters;
 mod members;
 mod names;
+mod root;
 
 use crate::asked::filters::push_expr;
 use crate::asked::members::{has_no_filter, name_of, push_members};
+use crate::asked::root::names_of_root;
+pub(crate) use crate::asked::root::{asked_by_all, asked_by_test};
 use jp_check::Checked;
 use jp_flat::AskedFor;
 use jp_tree::{Segment, Selector};
@@ -20,18 +23,24 @@ use std::alloc::{AllocError, Global};
 
 /// What a query asks of a document: over each document it selects the same nodes in what is kept of
 /// it. A query asks for members of one name anywhere if a descendant segment with that name comes
-/// first, and for some members of a list's items if it goes to items and then to these members; what
-/// comes later has no filters, and the filters of items ask each of their queries of such members.
-/// Others have None. The only error is that memory ran out.
-pub fn asked_by<'q>(alloc: Global, query: &'q Checked) -> Result<Option<AskedFor<'q>>, AllocError>
+/// first, for some members of a list's items if it goes to items and then to these members, and for
+/// some of the document itself if it goes to these members; what comes later has no filters, and the
+/// filters of items ask each of their queries of such members. Others have None. The only error is that memory ran out.
+pub(crate) fn asked_by<'q>(
+    alloc: Global,
+    query: &'q Checked,
+) -> Result<Option<AskedFor<'q>>, AllocError>
     ensures { IfOk result (λ o. IfSome o (AsksNoMore (query_of query.now.query))) }
 {
-    let query = query.query();
-    if let Some(name) = name_anywhere(&query.segments) {
+    let segments = &query.query().segments;
+    if let Some(name) = name_anywhere(segments) {
         return Ok(Some(AskedFor::Anywhere(name)));
     }
-    match names_of_items(alloc, &query.segments)? {
-        Some(names) => Ok(Some(AskedFor::OfItems(names))),
+    if let Some(names) = names_of_items(alloc, segments)? {
+        return Ok(Some(AskedFor::OfItems(names)));
+    }
+    match names_of_root(alloc, query)? {
+        Some(names) => Ok(Some(AskedFor::OfRoot(names))),
         None => Ok(None),
     }
 }

@@ -1,20 +1,24 @@
 //! The functions of filters (RFC 9535 section 2.4), over their arguments.
 
 ghost use Rattle.jp_evaluate.specs.Stopping.{StopsSpent};
-ghost use Rattle.jp_select.specs.Steps.{Takes};
-ghost use Rattle.std.specs.Prelude.{◌≡◌, ◌<◌, IfOk, IfSome, length, option_map};
+ghost use Rattle.jp_select.specs.Steps.{Counts, Takes};
+ghost use Rattle.std.specs.Prelude.{◌≡◌, ◌<◌, IfOk, IfSome, OnOk, length, option_map};
+ghost use Rattle.jp_tree.specs.declared.function.Function.TheVariants.{ValueOf};
 ghost use Rattle.jp_tree.specs.Views.{argument_of, call_of, query_of};
 ghost use Rattle.jp_select.specs.Comparable.{comparable_of};
 ghost use Rattle.jp_evaluate.specs.Functions.{meaning, only_value};
+ghost use Rattle.jp_evaluate.specs.Named.{location_named};
 ghost use Rattle.jp_evaluate.specs.Nodelist.{argument_value, call_answer, call_holds, nodelist_at};
 ghost use Rattle.jp_evaluate.specs.Private.Asked.{asked};
 ghost use Rattle.jp_evaluate.specs.Private.Calls.{argument_query, both_arguments, call_function};
 ghost use Rattle.jp_evaluate.specs.Private.Calls.{call_query, counted, only_argument};
+ghost use Rattle.jp_evaluate.specs.Private.Compared.{location_steps};
 ghost use Rattle.jp_document.specs.Value.{text};
 ghost use Rattle.jp_evaluate.specs.Private.Meanings.{made_of_nodes, only_text};
 ghost use Rattle.jp_evaluate.specs.Private.Selecting.{nodes_query};
 ghost use Rattle.jp_evaluate.specs.Private.Sizes.{argument_size, call_size, query_size};
 
+use crate::compared::take_named;
 use crate::evaluating::{Work, logical_answer};
 use crate::evaluation_fault::EvaluationFault;
 use crate::filter::Asking;
@@ -61,7 +65,8 @@ impl<'a, 'q, V: Selectable + 'q, M: Matching> Asking<'a, 'q, V, M> {
     }
 
     /// What a function makes of the nodes of a query, of those that are counted; Nothing of another
-    /// kind's function.
+    /// kind's function. That of `value` may be a path that stands for an answer, with names of the
+    /// document, so it takes the steps for the location that it names.
     #[cycle(filter)]
     fn value_of_nodes(
         &self,
@@ -74,10 +79,16 @@ impl<'a, 'q, V: Selectable + 'q, M: Matching> Asking<'a, 'q, V, M> {
             (asked V.meaning self.now (nodelist_at (query_of nodes.entry.query.now))))) }
         ensures takes { Takes work.old.steps work.new.steps }
         ensures stopped { StopsSpent result work.new.steps }
+        ensures counts { OnOk result (function ≡ ValueOf
+            → IfSome (location_named (query_of nodes.entry.query.now))
+            (λ l. Counts (location_steps l) work.old.steps work.new.steps)) }
     {
         match function {
             Function::Count => Ok(whole(self.node_count(work, nodes)?)),
-            Function::ValueOf => Ok(Comparable::of(self.only_value(work, nodes)?)),
+            Function::ValueOf => {
+                take_named(nodes.query, &mut work.steps)?;
+                Ok(Comparable::of(self.only_value(work, nodes)?))
+            }
             _ => Ok(Comparable::Nothing),
         }
     }

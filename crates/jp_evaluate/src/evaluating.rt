@@ -1,11 +1,13 @@
 //! What an evaluation goes by, and the functions that ask its matcher.
 
-ghost use Rattle.jp_evaluate.specs.Stopping.{StopsSpent};
-ghost use Rattle.jp_select.specs.Steps.{Takes};
-ghost use Rattle.std.specs.Prelude.{◌≡◌, ℕ, List, IfOk, Some, option_map};
+ghost use Rattle.jp_evaluate.specs.Stopping.{CountsBy64, StopsSpent};
+ghost use Rattle.jp_select.specs.Steps.{Counts, Takes};
+ghost use Rattle.std.specs.Prelude.{◌≡◌, ◌≤◌, ◌+◌, ◌-◌, ◌*◌, ◌^◌, ℕ, List, IfOk, OnOk, Some};
+ghost use Rattle.std.specs.Prelude.{length, min, option_map};
 ghost use Rattle.std.specs.Str.{chars};
 ghost use Rattle.jp_iregexp.specs.PatternOf.{pattern_of};
-ghost use Rattle.jp_iregexp.specs.Tree.{tree};
+ghost use Rattle.jp_iregexp.specs.Positions.{positions_of};
+ghost use Rattle.jp_iregexp.specs.Tree.{Tree, tree};
 ghost use Rattle.jp_document.specs.Value.{text as text_value};
 ghost use Rattle.jp_evaluate.specs.Functions.{logical_answer, meaning};
 ghost use Rattle.jp_evaluate.specs.Private.Meanings.{matched};
@@ -18,7 +20,7 @@ use jp_select::Steps;
 use std::alloc::{AllocError, Global};
 
 /// How many class tests a step is for.
-const TESTS_A_STEP: u64 = 4_096;
+const TESTS_A_STEP: u64 = 64;
 
 /// What an evaluation goes by: the value of the root, `$`, and the matcher of patterns.
 #[derive(Drop)]
@@ -28,8 +30,8 @@ pub(crate) struct Evaluation<'q, V, M> {
     pub(crate) matcher: &'q M,
 }
 
-/// What changes while an evaluation goes on: the patterns that were read, and the steps that may
-/// still be made.
+/// What changes while an evaluation goes on: the patterns that were read, and the steps that may still be
+/// made.
 #[derive(Drop)]
 pub(crate) struct Work {
     pub(crate) patterns: Patterns,
@@ -86,8 +88,8 @@ fn matched<'q, V, M: Matching>(
 
 /// Whether a text matches the pattern of the other, the whole of it for `match` (RFC 9535 section
 /// 2.4.6), some part of it for `search` (section 2.4.7); not so where it spells none. Each byte of
-/// both texts is a step, and so are, where the pattern has more than 4,096 positions, class tests
-/// beyond those of the text's bytes, 4,096 at a time.
+/// both texts is a step, and so are for each byte of the text each 64 positions of the pattern beyond
+/// the first 64. They are taken before the text is matched.
 fn text_answer<'q, V, M: Matching>(
     evaluation: &Evaluation<'q, V, M>,
     work: &mut Work,
@@ -99,16 +101,23 @@ fn text_answer<'q, V, M: Matching>(
         ≡ matched extent (Some (text_value text.now)) (Some (text_value pattern.now))) }
     ensures takes { Takes work.old.steps work.new.steps }
     ensures stopped { StopsSpent result work.new.steps }
+    ensures counts { OnOk result (Counts (length text.now + length pattern.now) work.old.steps
+        work.new.steps) }
+    ensures moves { OnOk result ((read : Tree) → pattern_of (chars pattern.now) ≡ Some read
+        → positions_of read ≤ 4096 → CountsBy64 (min (positions_of read * length text.now)
+        (2 ^ 64 - 1)) work.old.steps work.new.steps) }
 {
     let alloc = evaluation.alloc;
-    work.steps.take_many(text.len() as u64)?;
     work.steps.take_many(pattern.len() as u64)?;
     let Some(pattern) = work.patterns.of(alloc, pattern)? else {
+        work.steps.take_many(text.len() as u64)?;
         return Ok(false);
     };
+    let ahead = pattern.steps_over(text.len()).max(text.len() as u64);
+    work.steps.take_many(ahead)?;
     let mut tests = Tests::new();
     let answer = is_matched(evaluation, extent, pattern, text, &mut tests)?;
-    work.steps.take_many(steps_beyond(&tests, text))?;
+    work.steps.take_many(steps_beyond(&tests, ahead))?;
     Ok(answer)
 }
 
@@ -132,7 +141,7 @@ fn is_matched<V, M: Matching>(
     }
 }
 
-/// The steps for class tests beyond those that a pattern of 4,096 positions makes over the text.
-fn steps_beyond(tests: &Tests, text: &str) -> u64 {
-    (tests.count() / TESTS_A_STEP).saturating_sub(text.len() as u64)
+/// The steps for class tests beyond those that were taken ahead.
+fn steps_beyond(tests: &Tests, ahead: u64) -> u64 {
+    (tests.count() / TESTS_A_STEP).saturating_sub(ahead)
 }

@@ -1,6 +1,7 @@
 //! Laws over the definitions.
 
 ghost use Rattle.jp_evaluate.specs.Laws.{DistinctIsExact, NamesRiseInSides, PathSelectsItsNode, SelectsNodesAlone};
+ghost use Rattle.jp_evaluate.specs.Cost.{NodesTakeSteps};
 ghost use Rattle.jp_evaluate.specs.Laws.{CountsAddUp, ExistenceGoesBySets, SingularSelectsOne, StandardCalls};
 
 /// The normalized path of a node of a document, read as a query, is accepted and selects that node
@@ -48,4 +49,9 @@ pub fn existence_goes_by_sets()
 /// Segments reach from a list as many nodes as from each of its nodes together (section 2.1.2).
 pub fn counts_add_up()
     ensures { CountsAddUp }
+{}
+
+/// A nodelist takes at least a step for each of its nodes, and for each that a segment before the last selects.
+pub fn nodes_take_steps()
+    ensures { NodesTakeSteps }
 {}

@@ -1,10 +1,12 @@
 //! The lengths of values (RFC 9535 section 2.4.4).
 
-ghost use Rattle.std.specs.Prelude.{◌≡◌, IfOk, OnErr, Some, length};
+ghost use Rattle.std.specs.Prelude.{◌≡◌, IfOk, OnErr, OnOk, Some, length, option_map};
 ghost use Rattle.std.specs.Str.{chars};
 ghost use Rattle.jp_select.specs.Comparable.{comparable_of};
-ghost use Rattle.jp_select.specs.Steps.{IsSpent, Takes};
+ghost use Rattle.jp_lent.specs.Lending.{seen_value};
+ghost use Rattle.jp_select.specs.Steps.{Counts, IsSpent, Takes};
 ghost use Rattle.jp_evaluate.specs.Functions.{length_of, size_of};
+ghost use Rattle.jp_evaluate.specs.Stopping.{text_bytes};
 
 use jp_lent::{Lent, Seen};
 use jp_select::{Comparable, Steps, Stopped};
@@ -18,6 +20,8 @@ pub(crate) fn length_of<'a, V: Lent + 'a>(
         ≡ length_of (comparable_of V.meaning value.entry)) }
     ensures takes { Takes steps.old steps.new }
     ensures stopped { OnErr result (IsSpent steps.new) }
+    ensures counts { OnOk result (Counts (text_bytes (comparable_of V.meaning value.entry)) steps.old
+        steps.new) }
 {
     steps.take_many(text_bytes(value.seen()))?;
     match size_of(value) {
@@ -27,7 +31,9 @@ pub(crate) fn length_of<'a, V: Lent + 'a>(
 }
 
 /// How many bytes a text has; other values have none.
-fn text_bytes(seen: Option<Seen<'_>>) -> u64 {
+fn text_bytes(seen: Option<Seen<'_>>) -> u64
+    ensures { result ≡ text_bytes (option_map seen_value seen.entry) }
+{
     match seen {
         Some(Seen::Text(text)) => text.len() as u64,
         _ => 0,

@@ -11,9 +11,10 @@
 //! `specs/Nodelist.antt` and, for what functions answer, `specs/Functions.antt`, in order and with
 //! repeats, one at a time, and `evaluate` collects them; `lent_nodes` gives them of a value in
 //! whatever form it is lent. `holds_of` tells whether a filter's expression is true of a whole document.
-//! `named_location` tells the location that a query names, whatever the
-//! document, by `specs/Named.antt`, and `asked_by` what a query asks of a document, by
-//! `specs/Asked.antt`. By `laws` the normalized path of a node of a document, read as a
+//! A `Plan` tells how much of a document a query is answered from, and reads that: the value at the
+//! location that it names, by `specs/Named.antt`, what it asks for, by `specs/Asked.antt`, or all of it. So it
+//! does for several queries that are answered together, and for an expression that `holds_of` is given.
+//! By `laws` the normalized path of a node of a document, read as a
 //! query, selects that node alone, a query selects nodes of the document alone, and a singular one
 //! at most one. Nothing that they give depends on a query's profile: one without `distinct` means
 //! what it means with the standard's functions alone.
@@ -26,6 +27,7 @@
 
 mod asked;
 mod calls;
+mod compared;
 mod each;
 mod evaluating;
 mod evaluation;
@@ -35,9 +37,11 @@ mod kind;
 pub mod laws;
 mod length;
 mod lent;
+mod location_set;
 mod named;
 mod operand;
 mod pattern;
+mod plan;
 mod selecting;
 mod settled;
 mod singular;
@@ -45,12 +49,12 @@ mod tally;
 mod truth;
 mod walk;
 
-pub use asked::asked_by;
 pub use each::Nodes;
 pub use evaluation::{evaluate, nodes};
 pub use evaluation_fault::EvaluationFault;
 pub use lent::{LentNodes, lent_nodes, lent_nodes_in, lent_nodes_with};
-pub use named::{name_location, named_location};
+pub use named::name_location;
 pub use pattern::Patterns;
+pub use plan::Plan;
 pub use truth::holds_of;
 pub use walk::Frame;

@@ -16,7 +16,7 @@ use std::alloc::{AllocError, Global};
 /// none where the document has no value there. A query names one where each of its segments is a
 /// child segment whose only selector is a name or an index from 0 on; others have None, which takes
 /// no memory, nor does the root. The only error is that memory ran out.
-pub fn named_location<'q>(
+pub(crate) fn named_location<'q>(
     alloc: Global,
     query: &'q Checked,
 ) -> Result<Option<Vec<Step<'q>>>, AllocError>
@@ -84,7 +84,7 @@ fn push_steps<'q>(query: &'q Query, location: &mut Vec<Step<'q>>) -> Result<bool
 
 /// The step that a segment names, None for a descendant segment, and for one with no selector or
 /// several.
-fn segment_step(segment: &Segment) -> Option<Step<'_>>
+pub(crate) fn segment_step(segment: &Segment) -> Option<Step<'_>>
     ensures { option_map step_of result ≡ step_of_segment (segment_of segment.now) }
 {
     if segment.descendant || segment.selectors.len() != 1 {

@@ -1,21 +1,23 @@
 //! The nodes of a query inside an expression, one by one, each once where that is asked.
 
 ghost use Rattle.jp_evaluate.specs.Stopping.{StopsSpent};
-ghost use Rattle.jp_select.specs.Steps.{Takes};
-ghost use Rattle.std.specs.Prelude.{◌≡◌, ◌∷◌, [], IfOk, MatchOption, Some};
+ghost use Rattle.jp_select.specs.Steps.{Counts, Takes};
+ghost use Rattle.std.specs.Prelude.{◌≡◌, ◌∷◌, [], IfOk, MatchOption, OnOk, OnSome, Some};
 ghost use Rattle.jp_tree.specs.declared.tree.Query.{out-Query};
+ghost use Rattle.jp_evaluate.specs.Private.Compared.{location_steps};
 ghost use Rattle.jp_evaluate.specs.Private.Selecting.{IsFresh, TellsNew, to_come};
 ghost use Rattle.jp_evaluate.specs.Private.Walk.{reached_node, walk_frames};
 
+use crate::compared::take_location;
 use crate::evaluating::{Evaluation, Work};
 use crate::evaluation_fault::EvaluationFault;
+use crate::location_set::LocationSet;
 use crate::walk::{Reached, Walk};
-use jp_document::Step;
 use jp_lent::Selectable;
 use jp_match::Matching;
+use jp_select::Steps;
 use jp_tree::{Query, Segment};
-use std::alloc::{AllocError, Global};
-use std::collections::BTreeSet;
+use std::alloc::Global;
 
 /// A query, and whether each of its nodes counts once.
 #[derive(Clone, Copy)]
@@ -30,7 +32,7 @@ pub(crate) struct NodesQuery<'q> {
 pub(crate) struct Selecting<'q, V> {
     segments: &'q [Segment],
     pub(crate) walk: Walk<'q, V>,
-    seen: Option<BTreeSet<Vec<Step<'q>>>>,
+    seen: Option<LocationSet<'q>>,
 }
 
 impl<'q, V: Selectable + 'q> Selecting<'q, V> {
@@ -45,7 +47,7 @@ impl<'q, V: Selectable + 'q> Selecting<'q, V> {
             segments: &nodes.query.segments,
             walk: Walk::from(alloc, start),
             seen: if nodes.distinct {
-                Some(BTreeSet::new(alloc))
+                Some(LocationSet::new(alloc))
             } else {
                 None
             },
@@ -68,23 +70,37 @@ impl<'q, V: Selectable + 'q> Selecting<'q, V> {
         ensures stopped { StopsSpent result work.new.steps }
     {
         while let Some(reached) = self.walk.advance(evaluation, work, self.segments)? {
-            if self.is_new(evaluation.alloc, &reached)? {
+            if self.is_new(evaluation.alloc, &mut work.steps, &reached)? {
                 return Ok(Some(reached));
             }
         }
         Ok(None)
     }
 
-    /// Whether a node counts, which the walk has reached: it did not come before, or each counts.
+    /// Whether a node counts, which the walk has reached: it did not come before, or each counts. Its
+    /// location is compared with those of others, and takes steps by its length and those of its names.
     #[inline(always)]
-    fn is_new(&mut self, alloc: Global, reached: &Reached<'q, V>) -> Result<bool, AllocError>
+    fn is_new(
+        &mut self,
+        alloc: Global,
+        steps: &mut Steps,
+        reached: &Reached<'q, V>,
+    ) -> Result<bool, EvaluationFault>
         ensures walk { self.new.walk ≡ self.old.walk }
         ensures segments { self.new.segments ≡ self.old.segments }
         ensures new { IfOk result (λ new. TellsNew self.old.seen
             (reached_node V.meaning self.old.walk reached.now) new self.new.seen) }
+        ensures takes { Takes steps.old steps.new }
+        ensures stopped { StopsSpent result steps.new }
+        ensures counts { OnOk result (OnSome self.old.seen (Counts (location_steps
+            (reached_node V.meaning self.old.walk reached.now).location) steps.old steps.new)) }
     {
         match &mut self.seen {
-            Some(seen) => Ok(seen.insert(self.walk.location_at(alloc, reached)?)?),
+            Some(seen) => {
+                let location = self.walk.location_at(alloc, reached)?;
+                take_location(&location, steps)?;
+                Ok(seen.insert(alloc, &location)?)
+            }
             None => Ok(true),
         }
     }

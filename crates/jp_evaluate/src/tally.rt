@@ -8,21 +8,24 @@ ghost use Rattle.std.specs.Option.{option_map_or};
 ghost use Rattle.jp_document.specs.Location.{child, entries, step_of};
 ghost use Rattle.jp_document.specs.Node.{root_of};
 ghost use Rattle.jp_document.specs.Value.{Value};
-ghost use Rattle.jp_select.specs.Steps.{Takes};
+ghost use Rattle.jp_select.specs.Steps.{Counts as CountsSteps, Takes};
 ghost use Rattle.jp_evaluate.specs.Stopping.{StopsSpent};
+ghost use Rattle.jp_evaluate.specs.Private.Compared.{name_steps};
 ghost use Rattle.jp_evaluate.specs.Private.Tally.{AreByDone, AreInside, ByStep, Counts, CountsEach, IsByDone, Tells, all_ways, capped, children_sum, ended};
 ghost use Rattle.jp_evaluate.specs.Private.Tally.{first_sum, inside, node_sum, places_sum};
 ghost use Rattle.jp_evaluate.specs.Private.Tally.{reached_sum, spread_sum, spread_weight, way_weight};
-ghost use Rattle.jp_evaluate.specs.Private.Tally.{ways_sum};
+ghost use Rattle.jp_evaluate.specs.Private.Tally.{way_cost, ways_sum};
 ghost use Rattle.jp_evaluate.specs.Private.Walk.{reaches, segments_left};
 ghost use Rattle.jp_evaluate.specs.declared.tally.Way.{Way};
 
+use crate::compared::name_steps;
 use crate::evaluating::{Evaluation, Work};
 use crate::evaluation_fault::EvaluationFault;
 use crate::walk::{Frame, Reached, frame_offer, turn_count};
 use jp_document::Step;
 use jp_lent::Selectable;
 use jp_match::Matching;
+use jp_select::Steps;
 use jp_tree::Segment;
 use std::alloc::{AllocError, Global};
 use std::collections::BTreeMap;
@@ -206,6 +209,8 @@ fn spread<'q, V: Selectable + 'q, M: Matching>(
         → AreInside V.meaning (V.meaning value) children.new) }
     ensures takes { Takes work.old.steps work.new.steps }
     ensures stopped { StopsSpent result work.new.steps }
+    ensures counts { OnOk result (CountsSteps (way_cost segments.now (V.meaning value) way.done)
+        work.old.steps work.new.steps) }
 {
     work.steps.take_many(turn_count(segments, way.done))?;
     let mut frame = Frame::at(way.done, value);
@@ -216,19 +221,27 @@ fn spread<'q, V: Selectable + 'q, M: Matching>(
                 done: offer.reached.done,
                 count: way.count,
             };
-            add(evaluation.alloc, children, offer.reached, way)?;
+            add(
+                evaluation.alloc,
+                &mut work.steps,
+                children,
+                offer.reached,
+                way,
+            )?;
         }
     }
     Ok(())
 }
 
-/// Adds ways that lead to a value one step inside.
+/// Adds ways that lead to a value one step inside. Its name is compared with those of others, and takes
+/// steps by its length.
 fn add<'d, V: Selectable + 'd>(
     alloc: Global,
+    steps: &mut Steps,
     children: &mut Children<'d, V>,
     reached: Reached<'d, V>,
     way: Way,
-) -> Result<(), AllocError>
+) -> Result<(), EvaluationFault>
     ensures inside { OnOk result ((v : Value)
         → IfSome reached.entry.step (λ s. child v (step_of s) ≡ Some (V.meaning reached.entry.value))
         → AreInside V.meaning v children.old → AreInside V.meaning v children.new) }
@@ -236,10 +249,15 @@ fn add<'d, V: Selectable + 'd>(
         ≡ capped (children_sum h children.old + option_map_or (λ s. h (step_of s) way) reached.entry.step 0)) }
     ensures fewer { OnOk result ((h : ByStep) → AreByDone h → children_sum h children.new
         ≤ children_sum h children.old + option_map_or (λ s. h (step_of s) way) reached.entry.step 0) }
+    ensures takes { Takes steps.old steps.new }
+    ensures stopped { StopsSpent result steps.new }
+    ensures counts { OnOk result (IfSome reached.entry.step
+        (λ s. CountsSteps (name_steps (step_of s)) steps.old steps.new)) }
 {
     let Some(step) = reached.step else {
         return Ok(());
     };
+    steps.take_many(name_steps(step))?;
     let value = reached.value;
     let ways = joined(alloc, children.remove(&step), way)?;
     children.insert(step, Place { value, ways })?;

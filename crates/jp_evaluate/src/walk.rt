@@ -2,16 +2,20 @@
 //! a frame for each value on the way from where it begins to where it stands, and no list of nodes.
 
 ghost use Rattle.jp_evaluate.specs.Stopping.{GivenCounts, StopsSpent};
-ghost use Rattle.std.specs.Prelude.{◌≡◌, ◌↔◌, ◌<◌, ◌≤◌, ◌++◌, ◌∷◌, [], IfNone, IfOk, IfSome};
+ghost use Rattle.std.specs.Prelude.{◌≡◌, ◌↔◌, ◌<◌, ◌≤◌, ◌-◌, ◌++◌, ◌∷◌, [], IfNone, IfOk, IfSome};
 ghost use Rattle.std.specs.Prelude.{IsTrue, MatchOption, None, OnErr, OnOk, OnSome, Some, drop, length, map, min};
-ghost use Rattle.std.specs.Prelude.{option_and_then, option_map, slice_get};
+ghost use Rattle.std.specs.Prelude.{option_and_then, option_map, slice_get, suc};
 ghost use Rattle.jp_document.specs.Location.{entries, step_of};
 ghost use Rattle.jp_document.specs.Node.{root_of};
+ghost use Rattle.jp_document.specs.Value.{Value};
+ghost use Rattle.std.specs.Option.{option_map_or};
 ghost use Rattle.jp_tree.specs.Tree.{segments as segment_trees};
 ghost use Rattle.jp_tree.specs.Views.{expr_of, segment_of, selector_of};
 ghost use Rattle.jp_lent.specs.Lending.{entry_value, step_with};
 ghost use Rattle.jp_select.specs.Selectors.{candidates};
-ghost use Rattle.jp_select.specs.Steps.{IsSpent, Takes};
+ghost use Rattle.jp_select.specs.Steps.{Counts, IsSpent, Takes};
+ghost use Rattle.jp_evaluate.specs.Cost.{entering_cost};
+ghost use Rattle.jp_evaluate.specs.Private.Due.{Pays, offer_cost, walk_cost};
 ghost use Rattle.jp_evaluate.specs.Private.Sizes.{expr_size, segments_size, selector_size};
 ghost use Rattle.jp_evaluate.specs.Private.Walk.{GivesChild, choice_at, entered, frame_choices, offered};
 ghost use Rattle.jp_evaluate.specs.Private.Walk.{passes, pending, reached_at, reached_node};
@@ -132,6 +136,8 @@ impl<'d, V: Selectable + 'd> Walk<'d, V> {
             ((left self.old ≡ []) × (left self.new ≡ []))
             (λ p. left self.old ≡ reached_node V.meaning self.new p ∷ left self.new)) }
         ensures counts { GivenCounts result work.old.steps work.new.steps }
+        ensures pays { IfOk result (λ o. let due = walk_cost V.meaning segments.now (V.meaning evaluation.now.root) in
+            Pays (due self.old) (option_map_or (λ _. due self.new) o 0) work.old.steps work.new.steps) }
         ensures keeps { OnOk result (Keeps self.old self.new) }
         ensures takes { Takes work.old.steps work.new.steps }
         ensures stopped { StopsSpent result work.new.steps }
@@ -160,6 +166,8 @@ impl<'d, V: Selectable + 'd> Walk<'d, V> {
     pub(crate) fn next_child(&mut self, segments: &[Segment]) -> Option<V>
         ensures gives { IfSome result (λ v. GivesChild V.meaning segments.now self.old v self.new) }
         ensures none { IfNone result (self.new ≡ self.old) }
+        ensures costs { OnSome result ((d : Value) → let due = walk_cost V.meaning segments.now d in
+            due self.old ≡ suc (due self.new)) }
     {
         if self.first.is_some() {
             return None;
@@ -188,6 +196,8 @@ impl<'d, V: Selectable + 'd> Walk<'d, V> {
             (choice_at (reached_at [] (walk_frames self.new)) (offered V.meaning segments.now o)
             ∷ left self.new))) }
         ensures begun { OnOk result (self.new.first ≡ None) }
+        ensures pays { IfOk result (λ next. (d : Value) → let due = walk_cost V.meaning segments.now d in
+            Pays (due self.old) (offer_cost V.meaning segments.now d next (due self.new)) steps.old steps.new) }
         ensures keeps { OnOk result (Keeps self.old self.new) }
         ensures smaller { IfOk result (λ next. IfSome next (λ o. IfSome o.test (λ e. expr_size (expr_of e.now)
             < segments_size (segment_trees (map segment_of segments.now))))) }
@@ -387,6 +397,9 @@ pub(crate) fn frame_offer<'q, 'd, V: Selectable + 'd>(
     ensures gives { IfOk result (λ next. let left = frame_choices V.meaning segments.now in
         MatchOption next (Skips LeadsNowhere (left frame.old) [])
         (λ o. Skips LeadsNowhere (left frame.old) (offered V.meaning segments.now o ∷ left frame.new))) }
+    ensures pays { IfOk result (λ next. let left = frame_choices V.meaning segments.now in
+        Pays (length (left frame.old)) (option_map_or (λ _. suc (length (left frame.new))) next 0)
+        steps.old steps.new) }
     ensures smaller { IfOk result (λ next. IfSome next (λ o. IfSome o.test (λ e. expr_size (expr_of e.now)
         < segments_size (segment_trees (map segment_of segments.now))))) }
     ensures takes { Takes steps.old steps.new }
@@ -425,6 +438,7 @@ fn pass_leaves<'q, 'd, V: Selectable + 'd>(
     ensures others { OnOk result (OnSome turn.entry.selector (frame.new.next ≡ frame.old.next)) }
     ensures takes { Takes steps.old steps.new }
     ensures stopped { OnErr result (IsSpent steps.new) }
+    ensures counts { OnOk result (Counts (frame.new.next - frame.old.next) steps.old steps.new) }
 {
     if turn.selector.is_some() {
         return Ok(());
@@ -454,7 +468,9 @@ fn past_leaves<'d, V: Selectable + 'd>(value: V, from: usize) -> usize
 
 /// How many turns are tried at a value after `done` segments, the one that is not there included.
 #[inline(always)]
-pub(crate) fn turn_count(segments: &[Segment], done: usize) -> u64 {
+pub(crate) fn turn_count(segments: &[Segment], done: usize) -> u64
+    ensures { result ≡ entering_cost (segments_left segments.now done) }
+{
     match segments.get(done) {
         Some(segment) => (segment.selectors.len() as u64).saturating_add(2),
         None => 0,

@@ -1,1 +1,3 @@
 pub mod Attempts
+pub mod FromEnd
+pub mod Pieces

@@ -12,8 +12,9 @@
 //! The contract for the crates above: `explain` tells the line, the column and the width before the
 //! refusal's place by `specs/Place.antt` and `specs/Shown.antt`, the reason by `specs/Reasons.antt`,
 //! and as a suggestion only a text that is accepted in the profile; `explanation_text` writes what
-//! `specs/Explanation.antt` says. Which slip is mended in which way is promised nowhere: a mended text
-//! is read before it is told.
+//! `specs/Explanation.antt` says. Which slip is mended in which way is promised nowhere but for an item
+//! counted from an array's end, whose index has the digits that stood there: a mended text is read before
+//! it is told.
 #![tactic(auto)]
 
 mod class;

@@ -1,6 +1,13 @@
 //! Mended texts of queries: for a reason, the text with what it obviously meant at the place.
 //!
-//! Nothing is promised of a mended text: it is a guess, which is read before it is told.
+//! A mended text is a guess, which is read before it is told. Promised is of an item counted from an
+//! array's end that its index has the digits that stood there, and of what closes a text that what was
+//! opened last is closed first; of other mends nothing.
+
+ghost use Rattle.std.specs.Prelude.{◌≡◌, ◌++◌, IfOk, IfSome, OnOk, string_bytes};
+ghost use Rattle.std.specs.List.{flat_map};
+ghost use Rattle.std.specs.Str.{chars};
+ghost use Rattle.jp_explain.specs.Private.Pieces.{piece_text};
 
 mod cuts;
 mod ends;
@@ -11,6 +18,7 @@ mod starts;
 mod words;
 
 use crate::reason::Reason;
+use jp_canon::Writer;
 use std::alloc::{AllocError, Global};
 
 /// The text of a query, cut where it is refused.
@@ -51,16 +59,22 @@ pub(crate) fn mended(alloc: Global, reason: Reason, cut: Cut<'_>) -> Mended {
 }
 
 /// The pieces, one after the other.
-fn joined(alloc: Global, pieces: &[Piece<'_>]) -> Mended {
-    let mut text = String::new(alloc);
+fn joined(alloc: Global, pieces: &[Piece<'_>]) -> Mended
+    ensures { IfOk result
+        (λ o. IfSome o (λ text. chars (string_bytes text) ≡ flat_map piece_text pieces.now)) }
+{
+    let mut out = Writer::new(alloc);
     for piece in pieces {
-        push_piece(&mut text, *piece)?;
+        write_piece(&mut out, *piece)?;
     }
-    Ok(Some(text))
+    Ok(Some(out.into_text()))
 }
 
 /// The word, between what is kept before it and after it.
-fn spliced<'t>(alloc: Global, before: &'t [char], word: &'static str, after: &'t [char]) -> Mended {
+fn spliced<'t>(alloc: Global, before: &'t [char], word: &'static str, after: &'t [char]) -> Mended
+    ensures { IfOk result (λ o. IfSome o
+        (λ text. chars (string_bytes text) ≡ before.now ++ chars word.now ++ after.now)) }
+{
     joined(
         alloc,
         &[Piece::Kept(before), Piece::New(word), Piece::Kept(after)],
@@ -74,16 +88,20 @@ fn quoted<'t>(alloc: Global, before: &'t [char], text: &'t [char], after: &'t [c
     joined(alloc, &[before, mark, text, mark, after])
 }
 
-fn push_piece(text: &mut String, piece: Piece<'_>) -> Result<(), AllocError> {
+fn write_piece(out: &mut Writer, piece: Piece<'_>) -> Result<(), AllocError>
+    ensures { OnOk result (out.new ≡ out.old ++ piece_text piece.entry) }
+{
     match piece {
-        Piece::Kept(kept) => push_characters(text, kept),
-        Piece::New(word) => text.push_str(word),
+        Piece::Kept(kept) => write_characters(out, kept),
+        Piece::New(word) => out.text(word),
     }
 }
 
-fn push_characters(text: &mut String, characters: &[char]) -> Result<(), AllocError> {
+fn write_characters(out: &mut Writer, characters: &[char]) -> Result<(), AllocError>
+    ensures { OnOk result (out.new ≡ out.old ++ characters.now) }
+{
     for c in characters {
-        text.push(*c)?;
+        out.character(*c)?;
     }
     Ok(())
 }

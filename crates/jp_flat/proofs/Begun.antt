@@ -1,16 +1,17 @@
 -- What the first token of a value tells of it: for the values that are kept as they are.
-use Rattle.std.proofs.Common.{◌≡◌, ◌∷◌, ◌∙◌, ℕ, List, Option, Some, None, ap, refl, sym}
+use Rattle.std.proofs.Common.{◌≡◌, ◌∷◌, ◌∙◌, [], ℕ, List, Option, Some, None, ap, refl, sym}
 use Rattle.std.proofs.lemmas.Option.{same_Some}
 use Rattle.json.specs.Json as json
 use Rattle.json.specs.Json.{value}
 use Rattle.json.specs.Token as spec
 use Rattle.json.proofs.Grammar.{value_is}
 use Rattle.serde_json.specs.Data as parsed
-use Rattle.serde_json.specs.Data.{Data}
-use Rattle.serde_json.specs.Read.{number_of, of_items, of_json, of_members}
-use Rattle.jp_document.specs.Document.{items_of_data, members_of_data, value_of_data}
-use Rattle.jp_document.specs.Value.{Value, list, object}
-use Rattle.jp_document.proofs.Options.{some_from_map}
+use Rattle.serde_json.specs.Read.{number_of}
+use Rattle.jp_document.specs.Document.{value_of_data}
+use Rattle.jp_flat.specs.OfJson.{items_of_json, members_of_json, value_of_json}
+use Rattle.jp_flat.specs.Private.Integer.{whole_number}
+use Rattle.jp_document.specs.Value.{Value, list, members_of, object}
+use Rattle.jp_document.proofs.Options.{some_from_map, some_from_then}
 use Rattle.jp_flat.specs.Private.FromTokens.{ReadsValue}
 use Rattle.json.specs.Lex.{string_token}
 use Rattle.jp_flat.specs.Private.Tokens.{said, token_of, key_token}
@@ -29,11 +30,6 @@ sort_of (list vs) = a_list
 sort_of (object ms) = an_object
 sort_of _ = other
 
-abbrev data_sort : Data → Sort
-data_sort (parsed.array ds) = a_list
-data_sort (parsed.object ms) = an_object
-data_sort _ = other
-
 abbrev json_sort : json.Json → Sort
 json_sort (json.array js) = a_list
 json_sort (json.object ms) = an_object
@@ -44,29 +40,30 @@ token_sort spec.begin_array = a_list
 token_sort spec.begin_object = an_object
 token_sort _ = other
 
-sort-data : (d : Data) (v : Value) → value_of_data d ≡ Some v → sort_of v ≡ data_sort d
-sort-data parsed.null v is = ap sort_of (sym (same_Some _ v is))
-sort-data (parsed.boolean b) v is = ap sort_of (sym (same_Some _ v is))
-sort-data (parsed.number (parsed.unsigned n)) v is = ap sort_of (sym (same_Some _ v is))
-sort-data (parsed.number (parsed.negative z)) v is = ap sort_of (sym (same_Some _ v is))
-sort-data (parsed.number (parsed.float x)) v is = absurd (cc)
-sort-data (parsed.string s) v is = ap sort_of (sym (same_Some _ v is))
-sort-data (parsed.array ds) v is =
-    let h = some_from_map list (items_of_data ds) v is in ap sort_of (sym h.2)
-sort-data (parsed.object ms) v is =
-    let h = some_from_map object (members_of_data ms) v is in ap sort_of (sym h.2)
+sort-number : (n : parsed.Num) (v : Value) → value_of_data (parsed.number n) ≡ Some v
+    → sort_of v ≡ other
+sort-number (parsed.unsigned n) v is = ap sort_of (sym (same_Some _ v is))
+sort-number (parsed.negative z) v is = ap sort_of (sym (same_Some _ v is))
+sort-number (parsed.float x) v is = absurd (cc)
 
-sort-json : (j : json.Json) (d : Data) → of_json j ≡ Some d → data_sort d ≡ json_sort j
-sort-json json.null d is = ap data_sort (sym (same_Some _ d is))
-sort-json (json.boolean b) d is = ap data_sort (sym (same_Some _ d is))
-sort-json (json.number s) d is =
-    let h = some_from_map parsed.number (number_of s) d is in ap data_sort (sym h.2)
-sort-json (json.string s) d is = ap data_sort (sym (same_Some _ d is))
-sort-json (json.array js) d is =
-    let h = some_from_map parsed.array (of_items js) d is in ap data_sort (sym h.2)
-sort-json (json.object ms) d is =
-    let h = some_from_map parsed.object (of_members ms parsed.no_members) d is in
-    ap data_sort (sym h.2)
+-- a whole number is neither
+sort-whole : (s : List ℕ) (v : Value) → whole_number s ≡ Some v → sort_of v ≡ other
+sort-whole s v is =
+    let n = some_from_then (λ n. value_of_data (parsed.number n)) (number_of s) v is in
+    sort-number n.0 v n.2
+
+sort-json : (j : json.Json) (v : Value) → value_of_json whole_number j ≡ Some v
+    → sort_of v ≡ json_sort j
+sort-json json.null v is = ap sort_of (sym (same_Some _ v is))
+sort-json (json.boolean b) v is = ap sort_of (sym (same_Some _ v is))
+sort-json (json.number s) v is = sort-whole s v is
+sort-json (json.string s) v is = ap sort_of (sym (same_Some _ v is))
+sort-json (json.array js) v is =
+    let h = some_from_map list (items_of_json whole_number js) v is in ap sort_of (sym h.2)
+sort-json (json.object ms) v is =
+    let h = some_from_map (λ found. object (members_of found))
+    (members_of_json whole_number ms []) v is in
+    ap sort_of (sym h.2)
 
 sort-parsed : (a : json.Parse json.Items) (o : json.Parse json.Members) (k : spec.Token)
     (ts rest : List spec.Token) (j : json.Json)
@@ -90,11 +87,10 @@ sort-parsed a o spec.bad ts rest j is = absurd (cc)
 
 -- the first token tells the sort of the value
 pub sort-read : (depth : ℕ) (k : spec.Token) (ts rest : List spec.Token) (v : Value)
-    → ReadsValue depth (k ∷ ts) rest v → sort_of v ≡ token_sort k
+    → ReadsValue whole_number depth (k ∷ ts) rest v → sort_of v ≡ token_sort k
 sort-read depth k ts rest v x =
-    let h = parsed_before of_json (value depth (k ∷ ts)) x.reading rest x.read in
-    sort-data x.reading v x.holds ∙ sort-json h.0 x.reading h.2
-    ∙ sort-parsed _ _ k ts rest h.0 (sym (value_is depth (k ∷ ts)) ∙ h.1)
+    let h = parsed_before (value_of_json whole_number) (value depth (k ∷ ts)) v rest x.read in
+    sort-json h.0 v h.2 ∙ sort-parsed _ _ k ts rest h.0 (sym (value_is depth (k ∷ ts)) ∙ h.1)
 
 -- ---- tokens that begin no list, and no object
 

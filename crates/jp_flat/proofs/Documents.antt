@@ -1,4 +1,4 @@
--- What is read from a whole text is a document: for `Room::read` and `flat_value_at`.
+-- What is read from a whole text is a document: for `Room::read` and `Room::read_at`.
 use Rattle.std.proofs.Common.{◌≡◌, ℕ, true, List, [], IsUtf8, is_some, sym, ap, subst, unwrap_or}
 use Rattle.std.proofs.Common.{Option, Some, None, ◌∙◌}
 use Rattle.json.specs.Lex.{tokens}

@@ -33,6 +33,7 @@ use Rattle.jp_flat.specs.declared.item.Item.{Item}
 use Rattle.jp_flat.proofs.Growth.{flat_deeper, grows_on, grows_same, value_grows}
 use Rattle.jp_flat.proofs.Leaves.{reads_list, reads_object}
 use Rattle.jp_flat.proofs.Loops.{few_fit, values_end, values_more, values_none}
+use Rattle.jp_flat.specs.Private.Integer.{whole_number}
 
 -- ---- what is found stays, in tables that grow and with more levels
 
@@ -240,7 +241,7 @@ pub record MembersFound (depth : ℕ) (initial ts : List Token) (before now : Sh
   pub enough : length ts ≤ rounds
   pub shorter : length ts ≤ length initial
   pub members : List (List ℕ × Value)
-  pub ahead : MembersAhead depth initial rounds ts members
+  pub ahead : MembersAhead whole_number depth initial rounds ts members
   pub is :
       IsFoundAs depth now (value_sought (option_map whole_location s) (object (members_of members)))
       found
@@ -258,7 +259,7 @@ members_begin depth ts t s = record {
   enough = omega arith;
   shorter = omega arith;
   members = [];
-  ahead = record { entries = []; seen = refl; ahead = refl; rise = refl; short = refl };
+  ahead = record { ahead = refl; rise = refl; short = refl };
   is = no_members_found depth t s;
   grows = grows_same t;
 }
@@ -348,7 +349,7 @@ finds-leaf depth ts r token t i s first leaf =
     let x = leaf depth r t.items in
     record {
       value = x.0.value;
-      reads = subst (λ ks. ReadsValue depth ks r x.0.value) (sym first) x.0.reads;
+      reads = subst (λ ks. ReadsValue whole_number depth ks r x.0.value) (sym first) x.0.reads;
       short = x.0.short;
       found = nothing_inside depth t s x.0.value x.1;
     }

@@ -1,21 +1,17 @@
--- Members put in their places, so that their names rise, as `serde_json` puts them: for the objects
--- that are read from tokens.
+-- Members put in their places, so that their names rise, for the objects that are read from
+-- tokens.
 use Rattle.std.proofs.Common.{◌++◌, ◌≡◌}
 use Rattle.std.proofs.Common.{ℕ, zero, suc, Bool, true, List, [], ◌∷◌, take, drop}
 use Rattle.std.proofs.Common.{map, Some, Greater, is_lt, refl, sym, ap, ◌∙◌}
 use Rattle.std.specs.BTreeMap.{insert_entry}
 use Rattle.std.specs.List.{insert, list_all}
 use Rattle.std.specs.Map.{keys_of}
-use Rattle.std.specs.Option.{option_map, option_and_then}
 use Rattle.std.specs.Ordering.{match_ordering, ordering_reverse}
 use Rattle.std.proofs.lemmas.Cmp.{nat_list_cmp_total}
-use Rattle.serde_json.specs.Data as parsed
-use Rattle.serde_json.specs.Data.{Data, put}
-use Rattle.jp_document.specs.Document.{value_of_data, members_of_data}
-use Rattle.jp_document.specs.Value.{Value, members_of, member}
+use Rattle.jp_document.specs.Value.{Value, members_of}
 use Rattle.jp_document.specs.Value.{names_of, names_rise, everywhere, everywhere_in_members}
 use Rattle.jp_document.proofs.Members.ByName.{bytes_cmp, Less-from_is_lt, names_of-members_of}
-use Rattle.jp_document.proofs.Members.Inserting.{insert_all, keys_rise, through}
+use Rattle.jp_document.proofs.Members.Inserting.{insert_all, keys_rise}
 use Rattle.jp_reading.proofs.Conjunctions.{and-left, and-right}
 use Rattle.jp_document.proofs.Descent.Inside.{all-members}
 
@@ -77,47 +73,3 @@ pub insert_rises : (ms : List Pair) (k : List ℕ) (v : Value)
 insert_rises ms k v rise =
     ap names_rise (names_of-members_of (insert_entry bytes_cmp ms k v))
     ∙ keys_rise ms k v (sym (ap names_rise (names_of-members_of ms)) ∙ rise)
-
--- ---- members with the data that was read
-
-pub record ReadMember : Type 0 where
-  pub name : List ℕ
-  pub reading : Data
-  pub value : Value
-  pub holds : value_of_data reading ≡ Some value
-
-abbrev pub pair : ReadMember → List ℕ × Value
-pair e = (e.name, e.value)
-
-abbrev pub data_of : List ReadMember → parsed.Members
-data_of [] = parsed.no_members
-data_of (e ∷ es) = parsed.member e.name e.reading (data_of es)
-
-pub members_of_data-entries : (es : List ReadMember)
-    → members_of_data (data_of es) ≡ Some (members_of (map pair es))
-members_of_data-entries [] = refl
-members_of_data-entries (e ∷ es) =
-    ap (option_and_then (λ w. option_map (member e.name w) (members_of_data (data_of es)))) e.holds
-    ∙ ap (option_map (member e.name e.value)) (members_of_data-entries es)
-
--- the same entry under a name of equal bytes
-abbrev renamed : List ℕ → ReadMember → ReadMember
-renamed n x = record { name = n; reading = x.reading; value = x.value; holds = x.holds }
-
-abbrev pub put_entry : ReadMember → List ReadMember → List ReadMember
-put_entry x [] = x ∷ []
-put_entry x (e ∷ es) =
-    match_ordering (bytes_cmp x.name e.name) (x ∷ e ∷ es) (renamed e.name x ∷ es)
-    (e ∷ put_entry x es)
-
-pub data_of-put_entry : (x : ReadMember) (es : List ReadMember)
-    → data_of (put_entry x es) ≡ put x.name x.reading (data_of es)
-data_of-put_entry x [] = refl
-data_of-put_entry x (e ∷ es) =
-    through data_of (bytes_cmp x.name e.name) _ _ _ ∙ rw (data_of-put_entry x es)
-
-pub pairs-put_entry : (x : ReadMember) (es : List ReadMember)
-    → map pair (put_entry x es) ≡ insert_entry bytes_cmp (map pair es) x.name x.value
-pairs-put_entry x [] = refl
-pairs-put_entry x (e ∷ es) =
-    through (map pair) (bytes_cmp x.name e.name) _ _ _ ∙ rw (pairs-put_entry x es)

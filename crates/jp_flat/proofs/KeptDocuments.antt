@@ -1,4 +1,4 @@
--- What is kept of a whole text that is a document: for `flat_asked`.
+-- What is kept of a whole text that is a document: for `Room::read_asked`.
 use Rattle.std.proofs.Common.{◌≡◌, ℕ, true, List, [], IsUtf8, inl, inr, is_some, refl, sym, ap, subst}
 use Rattle.std.proofs.Common.{unwrap_or, ◌∙◌}
 use Rattle.json.specs.Lex.{tokens}
@@ -8,16 +8,17 @@ use Rattle.jp_flat.specs.Asked.{IsKept, IsReadFor, IsThinned, is_listed}
 use Rattle.jp_flat.specs.Flat.{Shown, is_flat, meaning, most_levels, shown}
 use Rattle.jp_flat.specs.Private.Kept.{KeepsFlat, KeepsFlatText}
 use Rattle.jp_flat.specs.declared.asked.AskedFor.{AskedFor}
-use Rattle.jp_flat.specs.declared.asked.AskedFor.TheVariants.{Anywhere, OfItems}
+use Rattle.jp_flat.specs.declared.asked.AskedFor.TheVariants.{Anywhere, OfItems, OfRoot}
 use Rattle.jp_flat.specs.declared.flat.Flat.{Flat}
 use Rattle.jp_flat.specs.declared.item.Item.{Item}
 use Rattle.jp_flat.proofs.Ahead.{document_from_text}
-use Rattle.jp_flat.proofs.Picked.{picked-allowed}
+use Rattle.jp_flat.proofs.Picked.{members-allowed, picked-allowed}
 use Rattle.jp_flat.proofs.Rounds.{reads-all}
 use Rattle.jp_flat.proofs.Thinned.{allowed-thinned}
 
 -- all of a value may be kept
 pub kept-whole : (asked : AskedFor) (v : Value) → IsKept asked v v
+kept-whole (OfRoot names) v = inl refl
 kept-whole (OfItems names) v = inl refl
 kept-whole (Anywhere name) v = IsThinned.all v
 
@@ -35,6 +36,9 @@ kept-text asked s t i x = record {
 -- what is kept of a document's value may be a document's value
 kept-allowed : (asked : AskedFor) (v u : Value) → IsKept asked v u → IsDocumentValue v
     → IsDocumentValue u
+kept-allowed (OfRoot names) v u (inl same) valid = subst IsDocumentValue (sym same) valid
+kept-allowed (OfRoot names) v u (inr is) valid =
+    subst IsDocumentValue (sym is) (members-allowed (is_listed names.items) v valid)
 kept-allowed (OfItems names) v u (inl same) valid = subst IsDocumentValue (sym same) valid
 kept-allowed (OfItems names) v u (inr is) valid =
     subst IsDocumentValue (sym is) (picked-allowed (is_listed names.items) v valid)

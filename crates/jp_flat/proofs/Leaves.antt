@@ -1,7 +1,7 @@
 -- What single tokens are read as: for `leaf` and `number`.
 use Rattle.std.proofs.Common.{◌≡◌, ◌-◌, ◌<◌, ℕ, zero, suc, Bool, List, [], ◌∷◌, Some, length}
 use Rattle.std.proofs.Common.{option_map, refl, sym, ap, subst, ◌∙◌, arith, false, true, pos, negsuc, ℤ}
-use Rattle.std.proofs.Common.{◌^◌, ◌&&◌, nat_lt, None}
+use Rattle.std.proofs.Common.{◌^◌, ◌&&◌, nat_lt, None, Option}
 use Rattle.std.specs.Str.Parse.{AllDigits, digits_value}
 use Rattle.std.proofs.lemmas.Bool.{and_from, cond-true, lt-ltb}
 use Rattle.std.proofs.lemmas.Bool.Decides.{nat_tests}
@@ -14,11 +14,11 @@ use Rattle.json.specs.Json as json
 use Rattle.json.specs.Json.{after_end_array, items, members, parse_map, value}
 use Rattle.json.specs.Token.{Token}
 use Rattle.json.proofs.Grammar.{value_is, value-begin_array, value-begin_object}
-use Rattle.serde_json.specs.Data as parsed
 use Rattle.serde_json.specs.Data.{unsigned}
-use Rattle.serde_json.specs.Read.{converted, is_integer, number_from, of_items, of_json, of_members}
-use Rattle.jp_flat.specs.Private.Integer.{IsWholeText}
-use Rattle.jp_flat.specs.Private.FromTokens.{ReadsItems, ReadsMembers, ReadsValue}
+use Rattle.serde_json.specs.Read.{is_integer, number_from}
+use Rattle.jp_flat.specs.OfJson.{items_of_json, members_of_json, value_of_json}
+use Rattle.jp_flat.specs.Private.Integer.{IsWholeText, whole_number}
+use Rattle.jp_flat.specs.Private.FromTokens.{ReadsItems, ReadsMembers, ReadsValue, converted}
 use Rattle.jp_document.specs.Value.{Value, null, boolean, text, whole, list, object}
 use Rattle.jp_document.specs.Value.{items_of, members_of}
 use Rattle.jp_reading.proofs.Conjunctions.{and-both}
@@ -131,8 +131,8 @@ pub leaf-null : (k : Token) (t : Shown) → k ≡ Token.null → ReadsLeaf k t c
 leaf-null k t is = λ depth r items. (
   record {
     value = null;
-    reads = one_token depth (k ∷ r) r Token.null parsed.null null (ap (λ k. k ∷ r) is)
-        (ap (converted of_json) (value_is depth (Token.null ∷ r))) refl;
+    reads = one_token depth (k ∷ r) r Token.null null (ap (λ k. k ∷ r) is)
+        (ap (converted (value_of_json whole_number)) (value_is depth (Token.null ∷ r)));
     short = refl;
     means = null_means depth (with_items t items);
   },
@@ -144,19 +144,19 @@ pub leaf-boolean : (k : Token) (t : Shown) (b : Bool) → k ≡ Token.boolean b
 leaf-boolean k t b is = λ depth r items. (
   record {
     value = boolean b;
-    reads = one_token depth (k ∷ r) r (Token.boolean b) (parsed.boolean b) (boolean b)
-        (ap (λ k. k ∷ r) is) (ap (converted of_json) (value_is depth (Token.boolean b ∷ r))) refl;
+    reads = one_token depth (k ∷ r) r (Token.boolean b) (boolean b) (ap (λ k. k ∷ r) is)
+        (ap (converted (value_of_json whole_number)) (value_is depth (Token.boolean b ∷ r)));
     short = refl;
     means = boolean_means depth (with_items t items) b;
   },
   refl,
 )
 
-pub text-read : (depth : ℕ) (k : Token) (r : List Token) (x : List ℕ) → k ≡ Token.string x
-    → ReadsValue depth (k ∷ r) r (text x)
-text-read depth k r x is =
-    one_token depth (k ∷ r) r (Token.string x) (parsed.string x) (text x) (ap (λ k. k ∷ r) is)
-    (ap (converted of_json) (value_is depth (Token.string x ∷ r))) refl
+pub text-read : {N : List ℕ → Option Value} (depth : ℕ) (k : Token) (r : List Token) (x : List ℕ)
+    → k ≡ Token.string x → ReadsValue N depth (k ∷ r) r (text x)
+text-read {N = N} depth k r x is =
+    one_token depth (k ∷ r) r (Token.string x) (text x) (ap (λ k. k ∷ r) is)
+    (ap (converted (value_of_json N)) (value_is depth (Token.string x ∷ r)))
 
 pub leaf-text : (k : Token) (t : Shown) (p : Span) (x : List ℕ) → k ≡ Token.string x
     → text_at t p ≡ Some x → ReadsLeaf k t (code.Text p)
@@ -175,11 +175,9 @@ pub leaf-whole : (k : Token) (t : Shown) (i : Item) (s : List ℕ) → k ≡ Tok
 leaf-whole k t i s is x = λ depth r items. (
   record {
     value = whole x.number;
-    reads = one_token depth (k ∷ r) r (Token.number s) (parsed.number x.written.number)
-        (whole x.number) (ap (λ k. k ∷ r) is)
-        (ap (converted of_json) (value_is depth (Token.number s ∷ r))
-        ∙ ap (λ o. option_map (λ d. (d, r)) (option_map parsed.number o)) x.written.read)
-        x.written.holds;
+    reads = one_token depth (k ∷ r) r (Token.number s) (whole x.number) (ap (λ k. k ∷ r) is)
+        (ap (converted (value_of_json whole_number)) (value_is depth (Token.number s ∷ r))
+        ∙ ap (option_map (λ v. (v, r))) x.written.is);
     short = refl;
     means = x.means depth (with_items t items);
   },
@@ -191,16 +189,16 @@ pub leaf-read : (depth : ℕ) (ts r : List Token) (token : Token) (t : Shown) (i
 leaf-read depth ts r token t i first x =
     subst (λ ks. ReadsFlat depth ks r t i) (sym first) (x depth r t.items).0
 
-no_value : (depth : ℕ) (ts r : List Token) (v : Value) → value depth ts ≡ None
-    → ReadsValue depth ts r v → ⊥
-no_value depth ts r v none x =
-    let never : converted of_json None ≡ Some (x.reading, r) =
-    sym (ap (converted of_json) none) ∙ x.read in
+no_value : {N : List ℕ → Option Value} (depth : ℕ) (ts r : List Token) (v : Value)
+    → value depth ts ≡ None → ReadsValue N depth ts r v → ⊥
+no_value {N = N} depth ts r v none x =
+    let never : converted (value_of_json N) None ≡ Some (v, r) =
+    sym (ap (converted (value_of_json N)) none) ∙ x.read in
     absurd (cc)
 
 -- no list ends where a value begins
-pub value_goes : (depth : ℕ) (ts r : List Token) (v : Value) → ReadsValue depth ts r v
-    → after_end_array ts ≡ None
+pub value_goes : {N : List ℕ → Option Value} (depth : ℕ) (ts r : List Token) (v : Value)
+    → ReadsValue N depth ts r v → after_end_array ts ≡ None
 value_goes depth [] r v x = refl
 value_goes depth (Token.begin_object ∷ ts) r v x = refl
 value_goes depth (Token.end_object ∷ ts) r v x = refl
@@ -216,30 +214,29 @@ value_goes depth (Token.bad ∷ ts) r v x = refl
 
 -- ---- lists and objects
 
-pub reads_list : (depth : ℕ) (ts s r : List Token) (vs : List Value) → 0 < depth
-    → ts ≡ Token.begin_array ∷ s → ReadsItems (depth - 1) (length s) s r (items_of vs)
-    → ReadsValue depth ts r (list (items_of vs))
-reads_list depth ts s r vs deep first x = record {
-  reading = parsed.array x.reading;
+pub reads_list : {N : List ℕ → Option Value} (depth : ℕ) (ts s r : List Token) (vs : List Value)
+    → 0 < depth → ts ≡ Token.begin_array ∷ s
+    → ReadsItems N (depth - 1) (length s) s r (items_of vs)
+    → ReadsValue N depth ts r (list (items_of vs))
+reads_list {N = N} depth ts s r vs deep first x = record {
   read =
-      ap (converted of_json) (ap (value depth) first ∙ value-begin_array depth s deep)
-      ∙ converted-map of_items of_json json.array parsed.array (λ js. refl)
+      ap (converted (value_of_json N)) (ap (value depth) first ∙ value-begin_array depth s deep)
+      ∙ converted-map (items_of_json N) (value_of_json N) json.array list (λ js. refl)
       (items (value (depth - 1)) (length s) s)
-      ∙ ap (parse_map parsed.array) x.read;
-  holds = ap (option_map list) x.holds;
+      ∙ ap (parse_map list) x.read;
 }
 
-pub reads_object : (depth : ℕ) (ts s r : List Token) (ms : List (List ℕ × Value)) → 0 < depth
-    → ts ≡ Token.begin_object ∷ s → ReadsMembers (depth - 1) (length s) s r (members_of ms)
-    → ReadsValue depth ts r (object (members_of ms))
-reads_object depth ts s r ms deep first x = record {
-  reading = parsed.object x.reading;
+pub reads_object : {N : List ℕ → Option Value} (depth : ℕ) (ts s r : List Token)
+    (ms : List (List ℕ × Value)) → 0 < depth → ts ≡ Token.begin_object ∷ s
+    → ReadsMembers N (depth - 1) (length s) s r ms
+    → ReadsValue N depth ts r (object (members_of ms))
+reads_object {N = N} depth ts s r ms deep first x = record {
   read =
-      ap (converted of_json) (ap (value depth) first ∙ value-begin_object depth s deep)
-      ∙ converted-map (λ js. of_members js parsed.no_members) of_json json.object parsed.object
-      (λ js. refl) (members (value (depth - 1)) (length s) s)
-      ∙ ap (parse_map parsed.object) x.read;
-  holds = ap (option_map object) x.holds;
+      ap (converted (value_of_json N)) (ap (value depth) first ∙ value-begin_object depth s deep)
+      ∙ converted-map (λ js. members_of_json N js []) (value_of_json N) json.object
+      (λ found. object (members_of found)) (λ js. refl)
+      (members (value (depth - 1)) (length s) s)
+      ∙ ap (parse_map (λ found. object (members_of found))) x.read;
 }
 
 pub flat-list : (depth : ℕ) (ts s r : List Token) (t : Shown) (i : Item) → 0 < depth

@@ -1,6 +1,7 @@
 -- The files of lemmas. `pub` are those that proofs of other crates may name.
 pub mod Ahead
 pub mod Alone
+pub mod AsData
 pub mod Begun
 pub mod Blocks
 pub mod ByKeys
@@ -9,6 +10,7 @@ pub mod Documents
 pub mod FoundInside
 pub mod Fronts
 pub mod Growth
+pub mod Halts
 pub mod Inserting
 pub mod Inside
 pub mod KeptDocuments
@@ -18,6 +20,7 @@ pub mod Lookups
 pub mod Loops
 pub mod Moved
 pub mod Names
+pub mod NoValues
 pub mod Owned
 pub mod Passed
 pub mod Picked

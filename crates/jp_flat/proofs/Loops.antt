@@ -28,6 +28,7 @@ use Rattle.jp_flat.proofs.Growth.{all_of_grows, all_of_push, grows_on, grows_sam
 use Rattle.jp_flat.proofs.Growth.{grows_beside, member_grows, text_grows, value_grows}
 use Rattle.jp_flat.proofs.Leaves.{value_goes}
 use Rattle.jp_flat.proofs.Names.{put_all-push, rise-push}
+use Rattle.jp_flat.specs.Private.Integer.{whole_number}
 
 pub cut_back : {A : Type 0} (base : ℕ) (old new all : List A) → all ≡ old ++ new → base ≡ length old
     → drop base all ≡ new
@@ -58,13 +59,13 @@ short_item values v before here =
     ∙ and_from _ _ (sym (all-items list_fits values) ∙ before) (and_from _ _ here refl)
 
 pub values_more : (depth : ℕ) (initial ts r : List Token) (values : List Value) (v : Value)
-    → length r < length ts → ReadsValue depth ts r v → everywhere list_fits v ≡ true
+    → length r < length ts → ReadsValue whole_number depth ts r v → everywhere list_fits v ≡ true
     → BeginsValues depth initial ts values → BeginsValues depth initial r (values ++ v ∷ [])
 values_more depth initial ts r values v less x short so = record {
   rounds = so.rounds - 1;
   enough = omega (arith, so.enough);
   ahead = λ vs q later.
-      subst (λ ws. ReadsItems depth (length initial) initial q (items_of ws))
+      subst (λ ws. ReadsItems whole_number depth (length initial) initial q (items_of ws))
       (sym (append_assoc values (v ∷ []) vs))
       (so.ahead (v ∷ vs) q
       (items_round depth so.rounds ts r q v (items_of vs) (omega (arith, so.enough))
@@ -74,9 +75,9 @@ values_more depth initial ts r values v less x short so = record {
 
 pub values_end : (depth : ℕ) (initial ts r : List Token) (values : List Value)
     → after_end_array ts ≡ Some r → BeginsValues depth initial ts values
-    → ReadsItems depth (length initial) initial r (items_of values)
+    → ReadsItems whole_number depth (length initial) initial r (items_of values)
 values_end depth initial ts r values over so =
-    subst (λ ws. ReadsItems depth (length initial) initial r (items_of ws)) (append-nil values)
+    subst (λ ws. ReadsItems whole_number depth (length initial) initial r (items_of ws)) (append-nil values)
     (so.ahead [] r (items_over depth so.rounds ts r so.enough over))
 
 item_count-items_of : (vs : List Value) → item_count (items_of vs) ≡ length vs
@@ -231,7 +232,7 @@ pub record MembersSoFar (depth : ℕ) (initial ts : List Token) (before now : Sh
   pub enough : length ts ≤ rounds
   pub shorter : length ts ≤ length initial
   pub found : List (List ℕ × Value)
-  pub ahead : MembersAhead depth initial rounds ts (put_all [] found)
+  pub ahead : MembersAhead whole_number depth initial rounds ts (put_all [] found)
   pub new : List Named
   pub mean : all_of (member_with (flat_value depth now) now) new ≡ Some found
   pub pushed : all ≡ old ++ new
@@ -250,7 +251,7 @@ members_begin depth ts t base old at = record {
   enough = omega arith;
   shorter = omega arith;
   found = [];
-  ahead = record { entries = []; seen = refl; ahead = refl; rise = refl; short = refl };
+  ahead = record { ahead = refl; rise = refl; short = refl };
   new = [];
   mean = refl;
   pushed = sym (append-nil old);
@@ -284,7 +285,7 @@ members_more depth initial ts a r t s w u base rises still old all name m key le
       shorter = omega (arith, so.shorter);
       found = so.found ++ p ∷ [];
       ahead =
-          subst (MembersAhead depth initial (so.rounds - 1) r) (sym (put_all-push [] so.found p))
+          subst (MembersAhead whole_number depth initial (so.rounds - 1) r) (sym (put_all-push [] so.found p))
           (ahead_member depth initial so.rounds name ts a r (put_all [] so.found) x.value
           (omega (arith, so.enough)) key x.reads x.short so.ahead);
       new = so.new ++ m ∷ [];

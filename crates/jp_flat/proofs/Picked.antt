@@ -1,4 +1,4 @@
--- Members of some names alone, as they are read and as they are kept: for `picking` and `flat_asked`.
+-- Members of some names alone, as they are read and as they are kept: for `picking` and `Room::read_asked`.
 use Rattle.std.proofs.Common.{◌≡◌, Bool, true, false, List, [], ◌∷◌, ℕ, cond, is_lt, map, nat_le, suc}
 use Rattle.std.proofs.Common.{Ordering, Less, Equal, Greater, refl, sym, ap, ◌∙◌}
 use Rattle.std.specs.BTreeMap.{insert_entry}
@@ -168,7 +168,7 @@ inside-named p t (member n v ms) all =
     by true later = and-both _ _ (and-left _ _ all) later
     by false later = later
 
-members-allowed : (p : List ℕ → Bool) (v : Value) → everywhere is_allowed v ≡ true
+pub members-allowed : (p : List ℕ → Bool) (v : Value) → everywhere is_allowed v ≡ true
     → everywhere is_allowed (with_members p v) ≡ true
 members-allowed p (object ms) all =
     let fit = and-left _ _ all in

@@ -25,6 +25,7 @@ use Rattle.jp_flat.proofs.Loops.{cut_back, few_fit, values_end, values_more, val
 use Rattle.jp_flat.proofs.Names.{Pair, put_all-push, rise-push}
 use Rattle.jp_flat.proofs.Picked.{items_with-items_of, members_named-members_of, pairs_named}
 use Rattle.jp_flat.proofs.Picked.{put-named, put-unnamed}
+use Rattle.jp_flat.specs.Private.Integer.{whole_number}
 
 -- ---- items
 
@@ -104,7 +105,7 @@ pub record MembersPicked (p : List ℕ → Bool) (depth : ℕ) (initial ts : Lis
   pub enough : length ts ≤ rounds
   pub shorter : length ts ≤ length initial
   pub read : List Pair
-  pub ahead : MembersAhead depth initial rounds ts read
+  pub ahead : MembersAhead whole_number depth initial rounds ts read
   pub found : List Pair
   pub kept : put_all [] found ≡ pairs_named p read
   pub new : List Named
@@ -121,7 +122,7 @@ members-begin p depth ts t base old at = record {
   enough = omega arith;
   shorter = omega arith;
   read = [];
-  ahead = record { entries = []; seen = refl; ahead = refl; rise = refl; short = refl };
+  ahead = record { ahead = refl; rise = refl; short = refl };
   found = [];
   kept = refl;
   new = [];
@@ -190,7 +191,7 @@ members_more p depth initial ts a r t s w x u base rises still old all name m ke
 pub members_past : (p : List ℕ → Bool) (depth : ℕ) (initial ts a r : List Token) (t s w u : Shown)
     (base : ℕ) (rises : Bool) (old all : List Named) (name : List ℕ) (v : Value)
     → read_key ts ≡ Some (Some name, a) → p name ≡ false → length r < length ts
-    → ReadsValue depth a r v → everywhere list_fits v ≡ true → Grows s w → Grows w u
+    → ReadsValue whole_number depth a r v → everywhere list_fits v ≡ true → Grows s w → Grows w u
     → MembersPicked p depth initial ts t s base rises old all
     → MembersPicked p depth initial r t u base rises old all
 members_past p depth initial ts a r t s w u base rises old all name v key dropped less x short one

@@ -1,5 +1,5 @@
--- Lists and objects of which some is kept, and values that are kept as they are: for `picked_value` and
--- `picked_item`.
+-- Lists and objects of which some is kept, and values that are kept as they are: for `picked_list` and
+-- `picked_object`.
 use Rattle.std.proofs.Common.{◌≡◌, ◌-◌, ◌<◌, ℕ, suc, Bool, List, ◌∷◌, Some, refl, sym, subst, ◌∙◌}
 use Rattle.std.proofs.Common.{arith}
 use Rattle.json.specs.Token.{Token}
@@ -18,6 +18,7 @@ use Rattle.jp_flat.specs.declared.token.Token.TheVariants.{BeginArray, BeginObje
 use Rattle.jp_flat.proofs.Begun.{a_list, an_object, begins-list, begins-object, sort_of, sort-read}
 use Rattle.jp_flat.proofs.Begun.{token_sort}
 use Rattle.jp_flat.proofs.Leaves.{reads_list, reads_object}
+use Rattle.jp_flat.specs.Private.Integer.{whole_number}
 
 -- ---- lists and objects of which some is kept
 
@@ -57,7 +58,7 @@ keeps-same : (f : Value → Value) (depth : ℕ) (ts q r : List Token) (k : Toke
 keeps-same f depth ts q r k t i first same x = record {
   value = x.value;
   kept = x.value;
-  reads = subst (λ ks. ReadsValue depth ks r x.value) (sym first) x.reads;
+  reads = subst (λ ks. ReadsValue whole_number depth ks r x.value) (sym first) x.reads;
   short = x.short;
   keeps = same x.value (sort-read depth k q r x.value x.reads);
   means = x.means;

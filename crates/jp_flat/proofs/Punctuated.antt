@@ -70,12 +70,12 @@ quote_at : (d : List ℕ) (at : ℕ) → at < length d → get_or d at 0 ≡ 34
 unfolding lex
 quote_at d at within e = ap (lex between) (first_is d at 34 within e)
 
-end_object_at : (d : List ℕ) (at : ℕ) → at < length d → get_or d at 0 ≡ 125
+pub end_object_at : (d : List ℕ) (at : ℕ) → at < length d → get_or d at 0 ≡ 125
     → lex between (drop at d) ≡ Lexeme.token spec.end_object ∷ lex between (drop (at + 1) d)
 unfolding lex
 end_object_at d at within e = ap (lex between) (first_is d at 125 within e)
 
-end_array_at : (d : List ℕ) (at : ℕ) → at < length d → get_or d at 0 ≡ 93
+pub end_array_at : (d : List ℕ) (at : ℕ) → at < length d → get_or d at 0 ≡ 93
     → lex between (drop at d) ≡ Lexeme.token spec.end_array ∷ lex between (drop (at + 1) d)
 unfolding lex
 end_array_at d at within e = ap (lex between) (first_is d at 93 within e)

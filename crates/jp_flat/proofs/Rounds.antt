@@ -1,23 +1,25 @@
--- What `serde_json` reads from tokens, a token, an item and a member at a time: for `lone_value`.
+-- What tokens are read as, a token, an item and a member at a time: for `lone_value`.
 use Rattle.std.specs.Prelude.{slice_index}
 use Rattle.std.proofs.Common.{◌≡◌, ◌==◌, ℕ, ℤ, pos, true, false, drop, ◌-◌}
 use Rattle.std.proofs.Common.{◌<◌, ◌≤◌, List, [], ◌∷◌, length, Option, Some}
 use Rattle.std.proofs.Common.{None, option_map, option_and_then, refl, ap, ◌∙◌}
+use Rattle.std.specs.BTreeMap.{insert_entry}
 use Rattle.std.proofs.lemmas.Option.{some_pair_parts}
 use Rattle.json.specs.Lex.{tokens}
 use Rattle.json.specs.Token.{Token}
 use Rattle.json.specs.Json as json
 use Rattle.json.specs.Json.{parse_map, after_end_array, read_key, members, value, if_last}
 use Rattle.json.proofs.Grammar.{items_end, items_more, members_end, members_more}
-use Rattle.serde_json.specs.Data as parsed
 use Rattle.fast_float.specs.Text.{minus, scan}
-use Rattle.serde_json.specs.Data.{Data, put, unsigned, negative}
-use Rattle.serde_json.specs.Read.{of_json, of_items, of_members, converted}
-use Rattle.serde_json.specs.Read.{number_of, number_from, max_depth}
+use Rattle.serde_json.specs.Data.{number as number_data, unsigned, negative}
+use Rattle.serde_json.specs.Read.{number_of, number_from}
+use Rattle.jp_document.specs.Document.{value_of_data}
+use Rattle.jp_flat.specs.Flat.{most_levels}
+use Rattle.jp_flat.specs.OfJson.{items_of_json, members_of_json, value_of_json}
 use Rattle.jp_flat.specs.Private.Integer.{IsWholeText}
-use Rattle.jp_flat.specs.Private.FromTokens.{ReadsItems, ReadsText, ReadsValue}
-use Rattle.jp_document.specs.Document.{items_of_data, value_of_data}
+use Rattle.jp_flat.specs.Private.FromTokens.{ReadsItems, ReadsText, ReadsValue, converted}
 use Rattle.jp_document.specs.Value.{Value, whole, Items, no_items, item}
+use Rattle.jp_document.proofs.Members.ByName.{bytes_cmp}
 
 parts-same : {B : Type 0} (r s : List Token) (x : Option B) (b : B)
     → option_map {U = B × List Token} (λ y. (y, r)) x ≡ Some (b, s) → (r ≡ s) × (x ≡ Some b)
@@ -34,14 +36,11 @@ parsed_before f (Some p) b r e =
 
 -- ---- a value of one token
 
-pub one_token : (depth : ℕ) (ts r : List Token) (t : Token) (d : Data) (v : Value) → ts ≡ t ∷ r
-    → converted of_json (value depth (t ∷ r)) ≡ Some (d, r) → value_of_data d ≡ Some v
-    → ReadsValue depth ts r v
-one_token depth ts r t d v first is holds = record {
-  reading = d;
-  read = ap (λ s. converted of_json (value depth s)) first ∙ is;
-  holds = holds;
-}
+pub one_token : {N : List ℕ → Option Value} (depth : ℕ) (ts r : List Token) (t : Token) (v : Value)
+    → ts ≡ t ∷ r → converted (value_of_json N) (value depth (t ∷ r)) ≡ Some (v, r)
+    → ReadsValue N depth ts r v
+one_token {N = N} depth ts r t v first is =
+    record { read = ap (λ s. converted (value_of_json N) (value depth s)) first ∙ is }
 
 -- ---- what is made of parts
 
@@ -60,68 +59,61 @@ converted-map {D = D} f g h k same (Some p) =
 
 -- ---- the whole text
 
-abbrev whole_of : Option (json.Json × List Token) → Option Data
-whole_of o = option_and_then of_json (option_and_then (λ p. if_last p.0 p.1) o)
+abbrev last_of : Option (json.Json × List Token) → Option json.Json
+last_of o = option_and_then (λ p. if_last p.0 p.1) o
 
-pub reads-all : (s : List ℕ) (v : Value) → ReadsValue max_depth (tokens s) [] v → ReadsText s v
-reads-all s v x = record {
-  reading = x.reading;
-  read =
-      let j = parsed_before of_json (value max_depth (tokens s)) x.reading [] x.read in
-      ap whole_of j.1 ∙ j.2;
-  holds = x.holds;
-}
+pub reads-all : {N : List ℕ → Option Value} (s : List ℕ) (v : Value)
+    → ReadsValue N most_levels (tokens s) [] v → ReadsText N s v
+reads-all {N = N} s v x =
+    let j = parsed_before (value_of_json N) (value most_levels (tokens s)) v [] x.read in
+    record { parsed = j.0; read = ap last_of j.1; holds = j.2 }
 
 -- ---- one item more
 
-pub items_round : (depth n : ℕ) (ts r s : List Token) (v : Value) (vs : Items) → 0 < n
-    → after_end_array ts ≡ None → ReadsValue depth ts r v → ReadsItems depth (n - 1) r s vs
-    → ReadsItems depth n ts s (item v vs)
-items_round depth n ts r s v vs some going x later = record {
-  reading = parsed.item x.reading later.reading;
+pub items_round : {N : List ℕ → Option Value} (depth n : ℕ) (ts r s : List Token) (v : Value)
+    (vs : Items) → 0 < n → after_end_array ts ≡ None → ReadsValue N depth ts r v
+    → ReadsItems N depth (n - 1) r s vs → ReadsItems N depth n ts s (item v vs)
+items_round {N = N} depth n ts r s v vs some going x later = record {
   read =
-      let j = parsed_before of_json (value depth ts) x.reading r x.read in
-      ap (converted of_items) (items_more (value depth) n ts r j.0 some going j.1)
-      ∙ converted-map of_items of_items (json.item j.0) (parsed.item x.reading)
-      (λ js. ap (option_and_then (λ d. option_map (parsed.item d) (of_items js))) j.2) _
-      ∙ ap (parse_map (parsed.item x.reading)) later.read;
-  holds =
-      ap (option_and_then (λ w. option_map (item w) (items_of_data later.reading))) x.holds
-      ∙ ap (option_map (item v)) later.holds;
+      let j = parsed_before (value_of_json N) (value depth ts) v r x.read in
+      ap (converted (items_of_json N)) (items_more (value depth) n ts r j.0 some going j.1)
+      ∙ converted-map (items_of_json N) (items_of_json N) (json.item j.0) (item v)
+      (λ js. ap (option_and_then (λ w. option_map (item w) (items_of_json N js))) j.2) _
+      ∙ ap (parse_map (item v)) later.read;
 }
 
-pub items_over : (depth n : ℕ) (ts r : List Token) → length ts ≤ n → after_end_array ts ≡ Some r
-    → ReadsItems depth n ts r no_items
-items_over depth n ts r enough e = record {
-  reading = parsed.no_items;
-  read = ap (converted of_items) (items_end (value depth) n ts r enough e);
-  holds = refl;
-}
+pub items_over : {N : List ℕ → Option Value} (depth n : ℕ) (ts r : List Token) → length ts ≤ n
+    → after_end_array ts ≡ Some r → ReadsItems N depth n ts r no_items
+items_over {N = N} depth n ts r enough e =
+    record { read = ap (converted (items_of_json N)) (items_end (value depth) n ts r enough e) }
 
 -- ---- one member more, beside those that were read
 
-with_member : (k : List ℕ) (j : json.Json) (d : Data) (old : parsed.Members) → of_json j ≡ Some d
+with_member : (N : List ℕ → Option Value) (k : List ℕ) (j : json.Json) (v : Value)
+    (found : List (List ℕ × Value)) → value_of_json N j ≡ Some v
     → (o : Option (json.Members × List Token))
-    → converted (λ ms. of_members ms old) (parse_map (json.member k j) o) ≡
-    converted (λ ms. of_members ms (put k d old)) o
-with_member k j d old e None = refl
-with_member k j d old e (Some p) = rw e
+    → converted (λ ms. members_of_json N ms found) (parse_map (json.member k j) o) ≡
+    converted (λ ms. members_of_json N ms (insert_entry bytes_cmp found k v)) o
+with_member N k j v found e None = refl
+with_member N k j v found e (Some p) = rw e
 
-pub member_round : (depth n : ℕ) (old : parsed.Members) (k : List ℕ) (ts s r : List Token)
-    (v : Value) (x : ReadsValue depth s r v) → 0 < n → read_key ts ≡ Some (Some k, s)
-    → converted (λ ms. of_members ms old) (members (value depth) n ts) ≡
-    converted (λ ms. of_members ms (put k x.reading old)) (members (value depth) (n - 1) r)
-member_round depth n old k ts s r v x some key =
-    let j = parsed_before of_json (value depth s) x.reading r x.read in
-    ap (converted (λ ms. of_members ms old))
+pub member_round : {N : List ℕ → Option Value} (depth n : ℕ) (found : List (List ℕ × Value))
+    (k : List ℕ) (ts s r : List Token) (v : Value) → ReadsValue N depth s r v → 0 < n
+    → read_key ts ≡ Some (Some k, s)
+    → converted (λ ms. members_of_json N ms found) (members (value depth) n ts) ≡
+    converted (λ ms. members_of_json N ms (insert_entry bytes_cmp found k v))
+    (members (value depth) (n - 1) r)
+member_round {N = N} depth n found k ts s r v x some key =
+    let j = parsed_before (value_of_json N) (value depth s) v r x.read in
+    ap (converted (λ ms. members_of_json N ms found))
     (members_more (value depth) n k ts s r j.0 some key j.1)
-    ∙ with_member k j.0 x.reading old j.2 _
+    ∙ with_member N k j.0 v found j.2 _
 
-pub members_over : (depth n : ℕ) (old : parsed.Members) (ts r : List Token) → length ts ≤ n
-    → read_key ts ≡ Some (None, r)
-    → converted (λ ms. of_members ms old) (members (value depth) n ts) ≡ Some (old, r)
-members_over depth n old ts r enough e =
-    ap (converted (λ ms. of_members ms old)) (members_end (value depth) n ts r enough e)
+pub members_over : (N : List ℕ → Option Value) (depth n : ℕ) (found : List (List ℕ × Value))
+    (ts r : List Token) → length ts ≤ n → read_key ts ≡ Some (None, r)
+    → converted (λ ms. members_of_json N ms found) (members (value depth) n ts) ≡ Some (found, r)
+members_over N depth n found ts r enough e =
+    ap (converted (λ ms. members_of_json N ms found)) (members_end (value depth) n ts r enough e)
 
 -- ---- whole numbers
 
@@ -129,10 +121,20 @@ pub from_zero_text : (s : List ℕ) (n : ℕ) (z : ℤ) → (slice_index s 0 == 
     → number_from false (scan s) ≡ Some (unsigned n) → pos n ≡ z → IsWholeText s z
 unfolding number_of
 from_zero_text s n z first x same =
-    record { number = unsigned n; read = rw first x; holds = ap (λ z. Some (whole z)) same }
+    let read : number_of s ≡ Some (unsigned n) = rw first x in
+    record {
+      is =
+          ap (option_and_then (λ m. value_of_data (number_data m))) read
+          ∙ ap (λ z. Some (whole z)) same;
+    }
 
 pub below_zero_text : (s : List ℕ) (y z : ℤ) → (slice_index s 0 == minus) ≡ true
     → number_from true (scan (drop 1 s)) ≡ Some (negative y) → y ≡ z → IsWholeText s z
 unfolding number_of
 below_zero_text s y z first x same =
-    record { number = negative y; read = rw first x; holds = ap (λ z. Some (whole z)) same }
+    let read : number_of s ≡ Some (negative y) = rw first x in
+    record {
+      is =
+          ap (option_and_then (λ m. value_of_data (number_data m))) read
+          ∙ ap (λ z. Some (whole z)) same;
+    }

@@ -32,6 +32,7 @@ use Rattle.jp_flat.proofs.Loops.{above_said, cut_back}
 use Rattle.jp_flat.proofs.Names.{Pair, put_all-push, rise-push}
 use Rattle.jp_flat.proofs.Thinned.{LeavesPairs, leaves-members, put-both, put-left}
 use Rattle.jp_flat.proofs.Thinned.LeavesPairs.{none}
+use Rattle.jp_flat.specs.Private.Integer.{whole_number}
 
 -- the members so far, with what is kept of them behind the old ones, and the members to come
 pub record KeptMembers (n : List ℕ) (depth : ℕ) (initial ts : List Token) (before now : Shown)
@@ -40,7 +41,7 @@ pub record KeptMembers (n : List ℕ) (depth : ℕ) (initial ts : List Token) (b
   pub enough : length ts ≤ rounds
   pub shorter : length ts ≤ length initial
   pub found : List Pair
-  pub ahead : MembersAhead depth initial rounds ts (put_all [] found)
+  pub ahead : MembersAhead whole_number depth initial rounds ts (put_all [] found)
   pub kept : List Pair
   pub less : LeavesPairs n (put_all [] found) (put_all [] kept)
   pub new : List Named
@@ -57,7 +58,7 @@ kept_members-begin n depth ts t base old at = record {
   enough = omega arith;
   shorter = omega arith;
   found = [];
-  ahead = record { entries = []; seen = refl; ahead = refl; rise = refl; short = refl };
+  ahead = record { ahead = refl; rise = refl; short = refl };
   kept = [];
   less = none;
   new = [];
@@ -69,7 +70,7 @@ kept_members-begin n depth ts t base old at = record {
 }
 
 found-rise : (depth : ℕ) (initial : List Token) (n : ℕ) (ts : List Token) (found : List Pair)
-    → MembersAhead depth initial n ts found → names_rise (keys_of found) ≡ true
+    → MembersAhead whole_number depth initial n ts found → names_rise (keys_of found) ≡ true
 found-rise depth initial n ts found so =
     ap names_rise (sym (names_of-members_of found)) ∙ so.rise
 
@@ -107,7 +108,7 @@ kept_members-more n depth initial ts a r t s w u base rises still old all name m
       shorter = omega (arith, so.shorter);
       found = so.found ++ (name, x.value) ∷ [];
       ahead =
-          subst (MembersAhead depth initial (so.rounds - 1) r)
+          subst (MembersAhead whole_number depth initial (so.rounds - 1) r)
           (sym (put_all-push [] so.found (name, x.value)))
           (ahead_member depth initial so.rounds name ts a r (put_all [] so.found) x.value
           (omega (arith, so.enough)) key x.reads x.short so.ahead);
@@ -135,7 +136,7 @@ nothing old (x ∷ new) same = absurd (omega (arith, same, length-append old (x 
 -- a member that is left out, where none is kept
 pub kept_members-left : (n : List ℕ) (depth : ℕ) (initial ts a r : List Token) (t s w : Shown)
     (base : ℕ) (rises still : Bool) (old all : List Named) (name : List ℕ) (v : Value)
-    → read_key ts ≡ Some (Some name, a) → length r < length ts → ReadsValue depth a r v
+    → read_key ts ≡ Some (Some name, a) → length r < length ts → ReadsValue whole_number depth a r v
     → everywhere list_fits v ≡ true → is_name n name ≡ false → is_leaf v ≡ true
     → Grows s w → length all ≡ base → still ≡ rises
     → KeptMembers n depth initial ts t s base rises old all
@@ -156,7 +157,7 @@ kept_members-left n depth initial ts a r t s w base rises still old all name v k
       shorter = omega (arith, so.shorter);
       found = so.found ++ (name, v) ∷ [];
       ahead =
-          subst (MembersAhead depth initial (so.rounds - 1) r)
+          subst (MembersAhead whole_number depth initial (so.rounds - 1) r)
           (sym (put_all-push [] so.found (name, v)))
           (ahead_member depth initial so.rounds name ts a r (put_all [] so.found) v
           (omega (arith, so.enough)) key x short so.ahead);

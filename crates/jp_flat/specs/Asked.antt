@@ -9,7 +9,7 @@ use Rattle.jp_document.specs.Value.{Value, null, boolean, whole, text, list, obj
 use Rattle.jp_document.specs.Value.{Items, no_items, item, Members, no_members, member}
 use Rattle.jp_flat.specs.FlatValue.{document_in}
 use Rattle.jp_flat.specs.declared.asked.AskedFor.{AskedFor}
-use Rattle.jp_flat.specs.declared.asked.AskedFor.TheVariants.{OfItems, Anywhere}
+use Rattle.jp_flat.specs.declared.asked.AskedFor.TheVariants.{OfRoot, OfItems, Anywhere}
 use Rattle.jp_flat.specs.declared.flat.Flat.{Flat}
 
 -- two names are the same
@@ -78,6 +78,7 @@ mutual
 -- of a document's value d so much is kept as u, where that is asked of it: all of it, or what is
 -- asked for
 abbrev pub IsKept : AskedFor → Value → Value → Type 0
+IsKept (OfRoot names) d u = (u ≡ d) ⊎ (u ≡ with_members (is_listed names.items) d)
 IsKept (OfItems names) d u = (u ≡ d) ⊎ (u ≡ with_items_of (is_listed names.items) d)
 IsKept (Anywhere name) d u = IsThinned name.now d u
 

@@ -2,5 +2,6 @@
 pub mod Asked
 pub mod Flat
 pub mod FlatValue
+pub mod OfJson
 pub mod Private
 pub mod Room

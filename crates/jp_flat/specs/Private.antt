@@ -7,6 +7,7 @@ pub mod Fronts
 pub mod Integer
 pub mod Kept
 pub mod Keys
+pub mod NoJson
 pub mod Parts
 pub mod Reading
 pub mod Sorting

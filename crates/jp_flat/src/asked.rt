@@ -1,51 +1,35 @@
-//! What a query asks of a document, where it asks only for some of its members, and tables that hold no
-//! more of the document.
+//! What a query asks of a document, where it asks only for some of its members, and reading no more of
+//! the document into tables.
 
 ghost use Rattle.std.specs.Prelude.{◌≡◌, IfSome};
-ghost use Rattle.jp_flat.specs.Asked.{IsKept, IsReadFor};
+ghost use Rattle.jp_flat.specs.Asked.{IsKept};
 ghost use Rattle.jp_flat.specs.Flat.{most_levels, shown};
 ghost use Rattle.jp_flat.specs.Private.Kept.{KeepsFlat, KeepsFlatText};
 
 use crate::cursor::Cursor;
-use crate::flat::Flat;
 use crate::item::Item;
-use crate::picking::picked_value;
+use crate::picking::{picked_list, picked_object};
 use crate::reading::Pending;
-use crate::tables::{MAX_DEPTH, Tables, parts_in};
+use crate::tables::{MAX_DEPTH, Tables};
 use crate::thinning::thin_value;
-use std::alloc::Global;
 
 /// What a query asks of a document. What it does not ask for may be left out of the tables.
 #[derive(Drop)]
 pub enum AskedFor<'q> {
+    /// Of the document, if this is an object, the members of these names.
+    OfRoot(Vec<&'q str>),
     /// Of the objects that are items of the document, if this is a list, the members of these names.
     OfItems(Vec<&'q str>),
     /// Of each object the member of this name, and what lists and objects are members of it.
     Anywhere(&'q str),
 }
 
-/// The document that these bytes are, in tables, of which what is not asked for may be left out. None
-/// says nothing of the bytes, as with `flat_document`.
-pub fn flat_asked<'t>(alloc: Global, bytes: &'t [u8], asked: &AskedFor<'_>) -> Option<Flat<'t>>
-    ensures { IfSome result (IsReadFor asked.now bytes.now) }
-{
-    let Ok(text) = simdutf8::basic::from_utf8(bytes) else {
-        return None;
-    };
-    let mut pending = Pending::new(alloc);
-    let mut tables = Tables::new(alloc, text);
-    tables.reserve(parts_in(bytes, 64));
-    pending.reserve(parts_in(bytes, 16));
-    let root = kept_root(&mut tables, &mut pending, asked)?;
-    Some(Flat {
-        tables,
-        root,
-        pending,
-    })
-}
-
 /// Reads the value of a whole text, of which what is not asked for may be left out.
-fn kept_root(tables: &mut Tables<'_>, pending: &mut Pending, asked: &AskedFor<'_>) -> Option<Item>
+pub(crate) fn kept_root(
+    tables: &mut Tables<'_>,
+    pending: &mut Pending,
+    asked: &AskedFor<'_>,
+) -> Option<Item>
     ensures { IfSome result (KeepsFlatText asked.now tables.old.text.now (shown tables.new)) }
 {
     let mut reader = Cursor::new(tables.text.as_bytes());
@@ -65,8 +49,12 @@ fn kept_value(
         reader.new.tokens (shown tables.new)) }
 {
     match asked {
+        AskedFor::OfRoot(names) => {
+            let item = picked_object(tables, pending, reader, MAX_DEPTH, names.as_slice())?;
+            Some(item)
+        }
         AskedFor::OfItems(names) => {
-            let item = picked_value(tables, pending, reader, MAX_DEPTH, names.as_slice())?;
+            let item = picked_list(tables, pending, reader, MAX_DEPTH, names.as_slice())?;
             Some(item)
         }
         AskedFor::Anywhere(name) => {

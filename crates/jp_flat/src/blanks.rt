@@ -30,8 +30,9 @@ fn past_blanks_slowly(bytes: &[u8], from: usize) -> usize
     at
 }
 
+/// Whether a blank stands there (RFC 8259 section 2).
 #[inline(always)]
-fn is_blank(byte: u8) -> bool
+pub(crate) fn is_blank(byte: u8) -> bool
     ensures { result ≡ is_space byte }
 {
     byte == b' ' || byte == b'\t' || byte == b'\n' || byte == b'\r'

@@ -1,11 +1,12 @@
 //! A point in a text, and the token that stands there.
 
-ghost use Rattle.std.specs.Prelude.{◌≡◌, ◌∷◌, [], true, IfSome, None, OnSome, Some};
+ghost use Rattle.std.specs.Prelude.{◌≡◌, ◌≤◌, ◌∷◌, [], true, IfNone, IfSome, None, OnSome, Some, length};
 ghost use Rattle.std.specs.Bool.{MatchBool};
 ghost use Rattle.json.specs.Align.{is_good};
 ghost use Rattle.json.specs.Json.{after_end_array, read_key};
 ghost use Rattle.json.specs.Lex.{may_begin, may_close, tokens};
 ghost use Rattle.jp_flat.specs.Private.Tokens.{ReadsName, IsSpelledIn, TokenHolds, token_of, expected_of};
+ghost use Rattle.jp_flat.specs.Private.Tokens.{tokens_from};
 
 use crate::blanks::past_blanks;
 use crate::lexing::{passed, token_at};
@@ -62,6 +63,23 @@ impl<'t> Cursor<'t> {
         }
     }
 
+    /// Where it is.
+    pub(crate) fn point(&self) -> Point
+        ensures tokens { self.now.tokens ≡ tokens_from self.now.text result }
+        ensures within { result.at ≤ length self.now.text }
+    {
+        self.point
+    }
+
+    /// Goes back to where it was.
+    pub(crate) fn back_to(&mut self, point: Point)
+        requires { point.at ≤ length self.old.text }
+        ensures tokens { self.new.tokens ≡ tokens_from self.old.text point }
+        ensures text { self.new.text ≡ self.old.text }
+    {
+        self.point = point;
+    }
+
     /// The next token. None where there is none, and where the text is no JSON of whole numbers; a
     /// text whose escapes are none is found only where it is unescaped.
     #[inline(always)]
@@ -69,6 +87,7 @@ impl<'t> Cursor<'t> {
         ensures reads { IfSome result (λ t. is_good (token_of t) ≡ true
             → self.old.tokens ≡ token_of t ∷ self.new.tokens) }
         ensures stands { IfSome result (TokenHolds self.old.text) }
+        ensures same { IfNone result (self.new ≡ self.old) }
         ensures text { self.new.text ≡ self.old.text }
     {
         let (token, point) = token_at(self.bytes, self.point)?;

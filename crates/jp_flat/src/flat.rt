@@ -1,12 +1,13 @@
 //! Documents in tables.
 
-ghost use Rattle.std.specs.Prelude.{◌≡◌, [], true, IfOk, IfSome, OnSome, Some, map, string_bytes};
+ghost use Rattle.std.specs.Prelude.{◌≡◌, [], true, IfOk, IfSome, OnSome, Some, map, option_map, string_bytes};
 ghost use Rattle.jp_document.specs.Document.{IsDocument};
 ghost use Rattle.jp_document.specs.Location.{step_of};
 ghost use Rattle.jp_flat.specs.Flat.{is_flat, meaning, shown};
 ghost use Rattle.jp_flat.specs.Private.Reading.{ReadsFlatText};
 ghost use Rattle.jp_flat.specs.Room.{IsIdle};
 
+use crate::asked::{AskedFor, kept_root};
 use crate::cursor::Cursor;
 use crate::flat_value::FlatValue;
 use crate::item::{Item, Named};
@@ -91,6 +92,28 @@ pub enum Found<'t> {
     Nothing(Room),
 }
 
+impl<'t> Found<'t> {
+    ghost use Rattle.jp_flat.specs.FlatValue.{document_in, flat_found, lent_flat};
+
+    /// The value that was found, to go on from.
+    pub fn value(&self) -> Option<FlatValue<'_, 't>>
+        ensures { option_map lent_flat result ≡ option_map document_in (flat_found self.now) }
+    {
+        match self {
+            Found::Value(flat) => Some(flat.value()),
+            Found::Nothing(_) => None,
+        }
+    }
+
+    /// The memory, for the next document.
+    pub fn into_room(self) -> Room {
+        match self {
+            Found::Value(flat) => flat.into_room(),
+            Found::Nothing(room) => room,
+        }
+    }
+}
+
 /// Memory to read documents into, which goes from one to the next. Nothing is being read in it: what
 /// a document left unread is not kept.
 #[derive(Drop)]
@@ -103,6 +126,7 @@ pub struct Room {
 }
 
 impl Room {
+    ghost use Rattle.jp_flat.specs.Asked.{IsReadFor};
     ghost use Rattle.jp_flat.specs.FlatValue.{IsValueAt, document_in, flat_found};
 
     /// No memory yet: it is taken as documents need it.
@@ -140,6 +164,29 @@ impl Room {
         tables.reserve(parts_in(bytes, 64));
         pending.reserve(parts_in(bytes, 16));
         let read = root(&mut tables, &mut pending);
+        match read {
+            Some(root) => Ok(Flat {
+                tables,
+                root,
+                pending,
+            }),
+            None => Err(Room::of(tables, pending)),
+        }
+    }
+
+    /// The document that these bytes are, in this memory, of which what is not asked for may be left
+    /// out. An `Err` gives the memory back, and says nothing of the bytes.
+    pub fn read_asked<'t>(self, bytes: &'t [u8], asked: &AskedFor<'_>) -> Result<Flat<'t>, Room>
+        ensures { IfOk result (IsReadFor asked.now bytes.now) }
+    {
+        let Ok(text) = simdutf8::basic::from_utf8(bytes) else {
+            return Err(self);
+        };
+        let mut pending = self.pending;
+        let mut tables = Tables::of(text, self.spare, self.items, self.members);
+        tables.reserve(parts_in(bytes, 64));
+        pending.reserve(parts_in(bytes, 16));
+        let read = kept_root(&mut tables, &mut pending, asked);
         match read {
             Some(root) => Ok(Flat {
                 tables,

@@ -1,17 +1,17 @@
-//! JSON documents in flat tables (RFC 9535 section 1.1), which take less time to read than a tree, and
-//! less memory.
+//! JSON documents in flat tables (RFC 9535 section 1.1): the parts of their lists and objects side by
+//! side, and no tree.
 //!
 //! `flat_document` reads one, `Flat::value` is its value, and a `FlatValue` is a `Lent` one. A `Room`
-//! takes the memory from one document to the next, `flat_value_at` reads a document for the one value
-//! at a location, and `flat_asked` for what a query asks of it:
+//! takes the memory from one document to the next: `Room::read_at` reads a document for the one value
+//! at a location, and `Room::read_asked` for what a query asks of it:
 //!
 //! ```text
 //! let flat = flat_document(alloc, b"{\"a\":[1,2]}")?;
 //! let (_, list) = flat.value().member("a")?;     // [1,2]
 //! let flat = flat.into_room().read(b"[3]")?;     // the next one, in the same memory
-//! let found = flat_value_at(alloc, b"{\"a\":[1,2]}", &[Step::Name("a"), Step::Index(0)])?;    // 1
+//! let found = flat.into_room().read_at(b"{\"a\":[1,2]}", &[Step::Name("a"), Step::Index(0)])?;    // 1
 //! let asked = AskedFor::OfItems(vec![in alloc; "a"]?);
-//! let flat = flat_asked(alloc, b"[{\"a\":1,\"b\":2}]", &asked)?;      // [{"a":1}]
+//! let flat = found.into_room().read_asked(b"[{\"a\":1,\"b\":2}]", &asked)?;      // [{"a":1}]
 //! ```
 //!
 //! For the layer above: what is read is a document, with its value in `specs/FlatValue.antt`, or what
@@ -34,7 +34,9 @@ mod item;
 mod key;
 mod leaf;
 mod lexing;
+mod met;
 mod moving;
+mod no_json;
 mod number;
 mod of_tree;
 mod parts;
@@ -51,7 +53,7 @@ mod thinning;
 mod token;
 mod value_at;
 
-pub use asked::{AskedFor, flat_asked};
+pub use asked::AskedFor;
 pub use flat::{Flat, Found, Room, flat_document};
 pub use flat_value::FlatValue;
-pub use value_at::{flat_value_at, found_value};
+pub use no_json::is_no_json;

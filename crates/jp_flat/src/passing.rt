@@ -85,7 +85,7 @@ fn pass_leaf(token: Token<'_>) -> Option<()>
 
 /// Passes over a text. None where its escapes are none.
 #[inline(always)]
-fn pass_text(text: Spelled<'_>) -> Option<()>
+pub(crate) fn pass_text(text: Spelled<'_>) -> Option<()>
     ensures { OnSome result (IsSaid (said text.entry)) }
 {
     match text {

@@ -1,4 +1,4 @@
-//! A list, and of those of its items that are objects some members alone.
+//! An object, and of it some members alone, or a list, and of its items that are objects.
 
 ghost use Rattle.std.specs.Prelude.{◌≡◌, ◌≤◌, ◌<◌, ◌∷◌, IfSome, OnSome, length, true};
 ghost use Rattle.json.specs.Align.{is_good};
@@ -22,7 +22,7 @@ use crate::token::{Spelled, Token};
 
 /// Reads a document's value, and if it is a list, of the objects that are its items the members of
 /// these names alone.
-pub(crate) fn picked_value(
+pub(crate) fn picked_list(
     tables: &mut Tables<'_>,
     pending: &mut Pending,
     reader: &mut Cursor<'_>,
@@ -63,16 +63,16 @@ fn picked_items(
 {
     let base = pending.items.len();
     'items: while !reader.take_end_array() {
-        let item = picked_item(tables, pending, reader, depth, names)?;
+        let item = picked_object(tables, pending, reader, depth, names)?;
         put(&mut pending.items, item)?;
     }
     let list = close_list(tables, &mut pending.items, base)?;
     Some(list)
 }
 
-/// Reads an item, and if it is an object the members of these names alone.
+/// Reads a value, and if it is an object the members of these names alone.
 #[inline(always)]
-fn picked_item(
+pub(crate) fn picked_object(
     tables: &mut Tables<'_>,
     pending: &mut Pending,
     reader: &mut Cursor<'_>,

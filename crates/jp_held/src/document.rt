@@ -4,7 +4,7 @@ ghost use Rattle.std.specs.Prelude.{◌≡◌, map, option_map, IfOk, IfErr};
 ghost use Rattle.jp_document.specs.Value.{IsDocumentValue, value_of};
 
 use jp_document::{DocumentFault, DocumentValue, Json, Node, OwnedLocation, Step, parsed_value};
-use jp_flat::flat_document;
+use jp_flat::{flat_document, is_no_json};
 use jp_lent::json_of;
 use std::alloc::Global;
 
@@ -45,6 +45,10 @@ impl Document {
         ensures ok { IfOk result (λ d. IsDocument bytes.now (document_of d)) }
         ensures fault { IfErr result (IsDocumentFault bytes.now) }
     {
+        // The tree that it reads into takes many times what these bytes do.
+        if is_no_json(alloc, bytes) {
+            return Err(DocumentFault::NotJson);
+        }
         let json = parsed_value(alloc, bytes)?;
         Ok(Document { json })
     }

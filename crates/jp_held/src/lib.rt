@@ -1,9 +1,10 @@
 //! From bytes to documents, in tables or as a tree (RFC 9535 section 1.1).
 //!
-//! `read_flat` reads a document into tables, `read_asked` what is asked of one, `read_into` into the memory of others, and
-//! `read_value_at` and `read_value_into` read it for the one value at a location. Where tables refuse
-//! the bytes, `serde_json` tells why. `Document::read` makes a tree of the tables, `Document::root` is its
-//! root, and `Document::find` the value at the location that `read_path` reads:
+//! `read_flat` reads a document into tables, and `read_into` does in the memory of others. `read_portion`
+//! reads so much of one as is wanted of it, also in such memory: all, what is asked for, or what stands at
+//! a location, which `read_value_into` reads alone, as `read_asked` does what is asked for. Where tables
+//! refuse the bytes, `serde_json` tells why. `Document::read` makes a tree of the tables, `Document::root` is its root, and `Document::find` the
+//! value at the location that `read_path` reads:
 //!
 //! ```text
 //! let document = Document::read(alloc, b"{\"a\":[1,2]}")?;
@@ -15,7 +16,9 @@
 #![tactic(auto)]
 
 mod document;
+mod portion;
 mod reading;
 
 pub use document::Document;
-pub use reading::{read_asked, read_flat, read_into, read_value_at, read_value_into};
+pub use portion::{Excerpt, Portion};
+pub use reading::{read_asked, read_flat, read_into, read_portion, read_value_into};

@@ -8,10 +8,12 @@ ghost use Rattle.jp_document.specs.Document.{IsDocument, IsDocumentFault};
 ghost use Rattle.jp_document.specs.Location.{step_of};
 ghost use Rattle.jp_flat.specs.Asked.{IsReadFor};
 ghost use Rattle.jp_flat.specs.FlatValue.{IsValueAt, document_in, flat_found};
+ghost use Rattle.jp_held.specs.Portions.{IsExcerpt};
 
 use crate::document::Document;
+use crate::portion::{Excerpt, Portion};
 use jp_document::{DocumentFault, Step};
-use jp_flat::{AskedFor, Flat, Found, Room, flat_asked, flat_document, flat_value_at};
+use jp_flat::{AskedFor, Flat, Found, Room, flat_document};
 use std::alloc::Global;
 
 /// The document that these bytes are, in tables, else what is wrong with them. `NoMemory` says
@@ -26,21 +28,29 @@ pub fn read_flat(alloc: Global, bytes: &[u8]) -> Result<Flat<'_>, DocumentFault>
     }
 }
 
-/// The document that these bytes are, in tables, of which so much is kept as is asked of it, else what
-/// is wrong with them, as `read_flat` says: of what is not kept, too.
-pub fn read_asked<'t>(
+/// So much of the document that these bytes are as is wanted, in the memory of other documents, which an
+/// `Err` gives back; else what is wrong with them, as `read_flat` says: with what is not wanted, too.
+pub fn read_portion<'p, 'q, 't>(
     alloc: Global,
+    room: Room,
     bytes: &'t [u8],
-    asked: &AskedFor<'_>,
-) -> Result<Flat<'t>, DocumentFault>
-    ensures ok { IfOk result (IsReadFor asked.now bytes.now) }
-    ensures fault { IfErr result (IsDocumentFault bytes.now) }
+    portion: &'p Portion<'q>,
+) -> Result<Excerpt<'p, 'q, 't>, (Room, DocumentFault)>
+    ensures ok { IfOk result (IsExcerpt portion.now bytes.now) }
+    ensures fault { IfErr result (λ e. IsDocumentFault bytes.now e.1) }
 {
-    match flat_asked(alloc, bytes, asked) {
-        Some(flat) => Ok(flat),
-        None => {
-            let flat = read_by_tree(alloc, bytes)?;
-            Ok(flat)
+    match portion {
+        Portion::Value(location) => {
+            let found = read_value_into(alloc, room, bytes, location)?;
+            Ok(Excerpt::Value(location, found))
+        }
+        Portion::Members(asked) => {
+            let flat = read_asked(alloc, room, bytes, asked)?;
+            Ok(Excerpt::Document(flat))
+        }
+        Portion::Whole => {
+            let flat = read_into(alloc, room, bytes)?;
+            Ok(Excerpt::Document(flat))
         }
     }
 }
@@ -59,23 +69,8 @@ pub fn read_into(alloc: Global, room: Room, bytes: &[u8]) -> Result<Flat<'_>, (R
     }
 }
 
-/// The value at this location of the document that these bytes are, None where the document has
-/// none there; else what is wrong with the bytes. It is found while the document is read.
-pub fn read_value_at<'t>(
-    alloc: Global,
-    bytes: &'t [u8],
-    location: &[Step<'_>],
-) -> Result<Option<Flat<'t>>, DocumentFault>
-    ensures ok { IfOk result (IsValueAt bytes.now (map step_of location.now)) }
-    ensures fault { IfErr result (IsDocumentFault bytes.now) }
-{
-    match flat_value_at(alloc, bytes, location) {
-        Some(found) => Ok(found),
-        None => value_by_tree(alloc, bytes, location),
-    }
-}
-
-/// `read_value_at` in the memory of other documents, which an `Err` gives back.
+/// What the document that these bytes are has at this location, in the memory of other documents, which
+/// an `Err` gives back with what is wrong with the bytes. It is found while the document is read.
 pub fn read_value_into<'t>(
     alloc: Global,
     room: Room,
@@ -91,6 +86,26 @@ pub fn read_value_into<'t>(
         Err(room) => match value_by_tree(alloc, bytes, location) {
             Ok(Some(flat)) => Ok(Found::Value(flat)),
             Ok(None) => Ok(Found::Nothing(room)),
+            Err(fault) => Err((room, fault)),
+        },
+    }
+}
+
+/// The document that these bytes are, of which so much is kept as is asked of it, in the memory of other
+/// documents, which an `Err` gives back with what is wrong with the bytes.
+pub fn read_asked<'t>(
+    alloc: Global,
+    room: Room,
+    bytes: &'t [u8],
+    asked: &AskedFor<'_>,
+) -> Result<Flat<'t>, (Room, DocumentFault)>
+    ensures ok { IfOk result (IsReadFor asked.now bytes.now) }
+    ensures fault { IfErr result (λ e. IsDocumentFault bytes.now e.1) }
+{
+    match room.read_asked(bytes, asked) {
+        Ok(flat) => Ok(flat),
+        Err(room) => match read_by_tree(alloc, bytes) {
+            Ok(flat) => Ok(flat),
             Err(fault) => Err((room, fault)),
         },
     }

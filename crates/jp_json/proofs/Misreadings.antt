@@ -1,5 +1,5 @@
 -- What is told of bytes, from how far they are read.
-use Rattle.std.proofs.Common.{◌≡◌, ◌⊎◌, ℕ, Bool, true, false, ◌==◌, ◌||◌, List, ◌∷◌, take, inl, inr, refl, ap, ◌∙◌, subst}
+use Rattle.std.proofs.Common.{◌≡◌, ◌⊎◌, ℕ, Bool, true, false, ◌==◌, ◌||◌, List, ◌∷◌, take, inl, inr, refl, ap, sym, ◌∙◌, subst}
 use Rattle.std.proofs.Common.{if◌then◌else◌, Option, Some, None, String, length, min, arith}
 use Rattle.std.proofs.lemmas.List.{length-take}
 use Rattle.std.proofs.lemmas.Str.{utf8_valid_len_le}
@@ -28,7 +28,7 @@ use Rattle.jp_json.specs.declared.state.Part.TheVariants.{Exponent, Sign, Power}
 use Rattle.jp_json.specs.declared.state.State.{State}
 use Rattle.jp_json.specs.declared.state.State.TheVariants as state
 use Rattle.jp_json.specs.Private.Parts.{IsBlamed}
-use Rattle.jp_json.specs.Misreading.{IsNoValue, IsNotWhole, utf8_text, syntax, scalar, fraction, cause_of, IsCausedBy, IsMisreading}
+use Rattle.jp_json.specs.Misreading.{IsNoValue, IsNotWhole, IsPlaceIn, utf8_text, syntax, scalar, fraction, cause_of, IsCausedBy, IsMisreading}
 use Rattle.jp_json.specs.Place.{column, front_of, line_number}
 use Rattle.jp_json.specs.Private.Reading.{IsReading}
 use Rattle.jp_json.specs.Private.Machine.{ends_number}
@@ -37,6 +37,7 @@ use Rattle.jp_json.specs.Private.Reasons.{bracket_reason, brace_reason, mark_rea
 use Rattle.jp_json.specs.Private.Reasons.{name_reason, joint_reason, level_reason, after_reason}
 use Rattle.jp_json.specs.Private.Reasons.{past_number_reason, number_reason}
 use Rattle.jp_json.specs.Private.Reasons.{unexpected_reason, open_reason, end_reason, stop_reason}
+use Rattle.jp_json.proofs.Cuts.{place-end, place-further, place-read}
 use Rattle.jp_json.proofs.Readings.{unexpected-at, too_deep-at, unfinished-at, whole-text}
 use Rattle.jp_json.proofs.Readings.{unfinished-viable, whole-viable}
 
@@ -155,12 +156,14 @@ stopped-syntax l s t c more is = rw is (unexpected-syntax l s c)
 
 -- a reason at a byte of the front that is UTF-8
 pub told-so : (bytes text : List ℕ) (m : Misreading) (offset : ℕ) (reason : JsonReason)
+    → IsPlaceIn bytes offset
     → text ≡ take (utf8_valid_len bytes) bytes → m.offset ≡ offset → m.reason ≡ reason
     → m.line ≡ line_number (front_of offset (chars text))
     → m.column ≡ column (front_of offset (chars text))
     → IsCausedBy (cause_of reason) bytes offset m.path
     → IsMisreading bytes m
-told-so bytes text m offset reason is offset_is reason_is line_is column_is cause = record {
+told-so bytes text m offset reason there is offset_is reason_is line_is column_is cause = record {
+  place = rw offset_is there;
   cause = rw (offset_is, reason_is) cause;
   line = rw offset_is (line_is ∙ ap (λ t. line_number (front_of offset (chars t))) is);
   column = rw offset_is (column_is ∙ ap (λ t. column (front_of offset (chars t))) is);
@@ -171,6 +174,21 @@ read-front : (bytes text : List ℕ) (r : Reading) → text ≡ take (utf8_valid
     → IsReading (chars text) r
     → IsReading (utf8_text bytes) r
 read-front bytes text r is h = subst (λ t. IsReading (chars t) r) is h
+
+-- the place after what is read of the front
+pub read-place : (bytes text : List ℕ) (r : Reading) → text ≡ take (utf8_valid_len bytes) bytes
+    → IsUtf8 text → IsReading (chars text) r
+    → IsPlaceIn bytes r.offset
+read-place bytes text r is utf8 h =
+    place-further bytes text (utf8_valid_len bytes) r.offset is
+    (subst (λ n. IsPlaceIn text n) (sym h.read.offset_is)
+    (place-read text h.read.front (chars r.rest.now) utf8 h.read.parts))
+
+-- the place after all of the front
+pub front-place : (bytes text : List ℕ) → text ≡ take (utf8_valid_len bytes) bytes → IsUtf8 text
+    → IsPlaceIn bytes (length text)
+front-place bytes text is utf8 =
+    place-further bytes text (utf8_valid_len bytes) (length text) is (place-end text utf8)
 
 pub unexpected-cause : {Z : Type 0} (bytes text : List ℕ) (r : Reading) (reason : JsonReason) (path : Option (String Z))
     → HasDefect bytes not_json → text ≡ take (utf8_valid_len bytes) bytes

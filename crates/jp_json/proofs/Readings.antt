@@ -49,17 +49,18 @@ read-more text rest more offset k j s e c h is goes = record {
 }
 
 -- as a reader finds it
-pub read-moved : (text rest more : Text) (offset size : ℕ) (k j : List Level) (s e : State) (c : ℕ)
-    → (x : Step) (o : Option Level) (r : Result State Stop) → IsReadTo text rest offset k s
+pub read-moved : (text rest more : Text) (offset size : ℕ) (k j : List Level) (s : State)
+    (e : State × Option Level) (c : ℕ)
+    → (x : Step) (o : Option Level) (r : Result (State × Option Level) Stop) → IsReadTo text rest offset k s
     → rest ≡ c ∷ more
     → size ≡ len_utf8 c
     → o ≡ top k → x ≡ step o s c → r ≡ Ok e
     → IsMoved k x r j
-    → IsReadTo text more (offset + size) j e
+    → IsReadTo text more (offset + size) j e.0 × (e.1 ≡ top j)
 read-moved text rest more offset size k j s e c x o r h is size_is top_is step_is ok moves =
     let there : IsMoved k x (Ok e) j = rw ok at moves in
-    let goes : move (spare_in k) k s c ≡ on (spare_in j) j e = rw (step_is, top_is) at there in
-    rw size_is (read-more text rest more offset k j s e c h is goes)
+    let goes : move (spare_in k) k s c ≡ on (spare_in j) j e.0 = rw (step_is, top_is) at there.0 in
+    (rw size_is (read-more text rest more offset k j s e.0 c h is goes), there.1)
 
 -- at the end of the text
 pub stopped-at-end : (k : List Level) (s : State) (rest : Text) → rest ≡ []

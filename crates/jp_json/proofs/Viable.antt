@@ -230,7 +230,7 @@ walked_from u stuck = stuck
 walked_from u deep = deep
 
 -- one text after another
-walk-append : (t : Text) (n m : ℕ) (k j : List Level) (s e : State) (u : Text)
+pub walk-append : (t : Text) (n m : ℕ) (k j : List Level) (s e : State) (u : Text)
     → walk n k s t ≡ on m j e
     → walk n k s (t ++ u) ≡ walk m j e u
 walk-append [] n m k j s e u h = ends h

@@ -104,8 +104,14 @@ IsCausedBy other bytes place path =
     (HasDefect bytes not_json × IsUtf8 bytes × json_text 127 (utf8_text bytes))
     ⊎ IsFractionPath bytes path
 
+-- the byte is one of the bytes, or their end, and what is before it is UTF-8: no character is cut there
+pub record IsPlaceIn (bytes : List ℕ) (place : ℕ) : Type 0 where
+  pub within : place ≤ length bytes
+  pub before : IsUtf8 (take place bytes)
+
 -- the bytes are misread so
 pub record IsMisreading (bytes : List ℕ) (m : Misreading) : Type 0 where
+  pub place : IsPlaceIn bytes m.offset
   pub cause : IsCausedBy (cause_of m.reason) bytes m.offset m.path
   pub line : m.line ≡ line_number (front_of m.offset (utf8_text bytes))
   pub column : m.column ≡ column (front_of m.offset (utf8_text bytes))

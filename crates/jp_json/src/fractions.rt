@@ -1,8 +1,8 @@
 //! The first number that is not whole.
 
-ghost use Rattle.std.specs.Prelude.{◌≡◌, ◌≤◌, ◌<◌, IfOk, IfSome, length};
+ghost use Rattle.std.specs.Prelude.{◌≡◌, ◌≤◌, ◌<◌, IfOk, IfSome, IsUtf8, get_or, length};
 ghost use Rattle.std.specs.Prelude.{true};
-ghost use Rattle.jp_json.specs.Misreading.{IsNotWhole, cause_of, fraction};
+ghost use Rattle.jp_json.specs.Misreading.{IsNotWhole, IsPlaceIn, cause_of, fraction};
 ghost use Rattle.jp_json.specs.Private.Parts.{IsBlamed};
 ghost use Rattle.jp_json.specs.Private.Reasons.{fraction_reason, has_fraction, is_zero};
 
@@ -121,8 +121,10 @@ fn spells(alloc: Global, string: &[u8], text: &str) -> Result<bool, AllocError> 
 /// The last number at the steps of the location, as the last member of a name is the one that
 /// counts.
 fn number_at(alloc: Global, text: &[u8], steps: &[OwnedStep]) -> Result<Option<Scalar>, AllocError>
-    ensures { IfOk result
+    ensures within { IfOk result
         (λ o. IfSome o (λ s. (s.start ≤ s.end) × (s.end ≤ length text.now))) }
+    ensures ascii { IfOk result (λ o. IfSome o (λ s.
+        (s.start < length text.now) × (get_or text.now s.start 0 < 128))) }
 {
     let mut walk = Walk {
         alloc,
@@ -199,7 +201,8 @@ pub(crate) fn fraction_at(
     text: &[u8],
     path: &str,
 ) -> Result<(usize, JsonReason), AllocError>
-    ensures { IfOk result (λ x. IsBlamed fraction IsNotWhole text.now x.0 x.1) }
+    ensures blamed { IfOk result (λ x. IsBlamed fraction IsNotWhole text.now x.0 x.1) }
+    ensures place { IfOk result (λ x. IsUtf8 text.now → IsPlaceIn text.now x.0) }
 {
     let location = match read_path(alloc, path) {
         Ok(location) => location,

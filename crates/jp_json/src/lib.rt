@@ -7,13 +7,15 @@
 //! ```
 //!
 //! The contract for the crates above: `find_misreading` answers None only for a document, and else a
-//! reason that is of the kind that `specs/Misreading.antt` says. A reason of syntax is told at the end
+//! reason that is of the kind that `specs/Misreading.antt` says; so does `misreading_of`, which is given the
+//! fault of the bytes and does not read them for it. A reason of syntax is told at the end
 //! of the longest viable prefix: what is before that byte goes on to a JSON text of at most
 //! `LEVEL_LIMIT` levels by the grammar of `specs/Grammar.antt`, and what is before and with the
 //! character there goes on to none. The line and the column are those of that byte.
 #![tactic(auto)]
 
 mod fractions;
+mod lanes;
 pub mod laws;
 mod levels;
 mod machine;
@@ -22,10 +24,11 @@ mod place;
 mod reading;
 mod reason;
 mod reasons;
+mod run;
 mod scalars;
 mod state;
 mod utf8;
 
 pub use levels::LEVEL_LIMIT;
-pub use misreading::{Misreading, find_misreading};
+pub use misreading::{Misreading, find_misreading, misreading_of};
 pub use reason::JsonReason;

@@ -42,14 +42,14 @@ fn is_unescaped(c: char) -> bool
 }
 
 /// Whether the character may stand after a backslash alone (section 7).
-fn is_escapable(c: char) -> bool
+pub(crate) fn is_escapable(c: char) -> bool
     ensures { result ≡ is_escapable c }
 {
     matches!(c, '"' | '\\' | '/' | 'b' | 'f' | 'n' | 'r' | 't')
 }
 
 /// Whether the character is a hexadecimal digit.
-fn is_hex_digit(c: char) -> bool
+pub(crate) fn is_hex_digit(c: char) -> bool
     ensures { result ≡ is_hex_digit c }
 {
     is_digit(c) || matches!(c, 'A'..='F' | 'a'..='f')
@@ -97,15 +97,16 @@ fn closing(level: Level, top: Option<Level>) -> Step
     }
 }
 
+#[tactic(auto, unfolding(jp_reading::specs::Texts::is_blank))]
 fn begin_value(c: char) -> Step
     ensures { result ≡ begin_value c }
 {
     match c {
-        _ if is_leading_digit(c) => Step::Go(State::Number(Part::Whole)),
-        _ if is_blank(c) => Step::Go(State::Value),
         '"' => Step::Go(State::Text(Role::Plain)),
+        _ if is_leading_digit(c) => Step::Go(State::Number(Part::Whole)),
         '[' => Step::Open(Level::Array),
         '{' => Step::Open(Level::Object),
+        _ if is_blank(c) => Step::Go(State::Value),
         '-' => Step::Go(State::Number(Part::Minus)),
         '0' => Step::Go(State::Number(Part::Zero)),
         't' => Step::Go(State::Letters(Letters::Rue)),
@@ -115,29 +116,31 @@ fn begin_value(c: char) -> Step
     }
 }
 
+#[tactic(auto, unfolding(jp_reading::specs::Texts::is_blank))]
 fn begin_name(c: char) -> Step
     ensures { result ≡ begin_name c }
 {
     match c {
-        _ if is_blank(c) => Step::Go(State::Name),
         '"' => Step::Go(State::Text(Role::Key)),
+        _ if is_blank(c) => Step::Go(State::Name),
         _ => Step::Stuck,
     }
 }
 
+#[tactic(auto, unfolding(jp_reading::specs::Texts::is_blank))]
 fn after_value(top: Option<Level>, c: char) -> Step
     ensures { result ≡ after_value top c }
 {
     match c {
-        _ if is_blank(c) => Step::Go(State::After),
         ',' => after_comma(top),
         ']' => closing(Level::Array, top),
         '}' => closing(Level::Object, top),
+        _ if is_blank(c) => Step::Go(State::After),
         _ => Step::Stuck,
     }
 }
 
-fn past_text(role: Role) -> State
+pub(crate) fn past_text(role: Role) -> State
     ensures { result ≡ past_text role }
 {
     match role {

@@ -2,7 +2,7 @@
 
 ghost use Rattle.std.specs.Prelude.{◌≡◌, IfOk, IfNone, IfSome, None, string_bytes};
 ghost use Rattle.std.specs.Str.{chars};
-ghost use Rattle.jp_document.specs.Document.{IsDocument, HasDefect, not_json, not_whole};
+ghost use Rattle.jp_document.specs.Document.{IsDocument, IsDocumentFault, HasDefect, not_json, not_whole};
 ghost use Rattle.jp_document.specs.Value.{Value};
 ghost use Rattle.jp_json.specs.Misreading.{IsMisreading};
 ghost use Rattle.jp_json.specs.Place.{front_of, line_number, column};
@@ -99,6 +99,30 @@ fn not_whole(alloc: Global, bytes: &[u8], path: String) -> Result<Misreading, Al
     Ok(told(text, offset, reason, Some(path)))
 }
 
+/// Why and where bytes are no document, which have that fault.
+///
+/// The only error is that memory ran out, as it has where the fault is `NoMemory`.
+pub fn misreading_of(
+    alloc: Global,
+    bytes: &[u8],
+    fault: &DocumentFault,
+) -> Result<Misreading, AllocError>
+    requires { IsDocumentFault bytes.now fault.now }
+    ensures { IfOk result (IsMisreading bytes.now) }
+{
+    match fault {
+        DocumentFault::NoMemory => Err(AllocError),
+        DocumentFault::NotJson => not_json(alloc, bytes),
+        DocumentFault::NotWhole(path) => {
+            not_whole(alloc, bytes, String::from_str(alloc, path.as_str())?)
+        }
+        DocumentFault::ListTooLong => {
+            let (text, _) = utf8_front(bytes);
+            Ok(told(text, text.len(), JsonReason::ListTooLong, None))
+        }
+    }
+}
+
 /// Why bytes are no document, and where; None where they are one.
 ///
 /// The only error is that memory ran out.
@@ -108,12 +132,6 @@ pub fn find_misreading(alloc: Global, bytes: &[u8]) -> Result<Option<Misreading>
 {
     match parsed_value(alloc, bytes) {
         Ok(_) => Ok(None),
-        Err(DocumentFault::NoMemory) => Err(AllocError),
-        Err(DocumentFault::NotJson) => Ok(Some(not_json(alloc, bytes)?)),
-        Err(DocumentFault::NotWhole(path)) => Ok(Some(not_whole(alloc, bytes, path)?)),
-        Err(DocumentFault::ListTooLong) => {
-            let (text, _) = utf8_front(bytes);
-            Ok(Some(told(text, text.len(), JsonReason::ListTooLong, None)))
-        }
+        Err(fault) => Ok(Some(misreading_of(alloc, bytes, &fault)?)),
     }
 }

@@ -4,7 +4,9 @@ ghost use Rattle.std.specs.Prelude.{◌≡◌, ◌-◌, ◌+◌, ◌≤◌, ◌�
 ghost use Rattle.std.specs.Char.{len_utf8};
 ghost use Rattle.std.specs.Str.{chars, IsUtf8};
 ghost use Rattle.jp_json.specs.Place.{front_of, line_number, column};
+ghost use Rattle.jp_json.specs.Private.Fronts.{IsBehindPlainFront, IsPlainFront};
 
+use crate::lanes::line_front;
 use jp_reading::split_first;
 
 /// The first character, which ends at or before the byte, and the text after it.
@@ -21,6 +23,22 @@ fn first_before(text: &str, offset: usize) -> Option<(char, &str)>
         Some((first, rest)) if first.len_utf8() <= offset => Some((first, rest)),
         _ => None,
     }
+}
+
+/// How many bytes at the front of a text, of at most so many, are ASCII characters that are no line feeds.
+fn plain_front(text: &str, most: usize) -> usize
+    ensures { IsPlainFront text.now most result }
+{
+    line_front(&text.as_bytes()[..text.len().min(most)])
+}
+
+/// What is left of a text behind ASCII characters at its front that are no line feeds, of at most so many bytes. Most
+/// of a text stands in such, which are gone over at once.
+fn behind_plain_front(text: &str, most: usize) -> &str
+    ensures front { IsBehindPlainFront text.now most result.now }
+    ensures utf8 { IsUtf8 result.now }
+{
+    &text[plain_front(text, most)..]
 }
 
 /// The line and the column of a byte of the text, both from 1; a column counts characters.
@@ -41,6 +59,10 @@ pub(crate) fn line_and_column(text: &str, offset: usize) -> (usize, usize)
         } else {
             since += 1;
         }
+        let before = rest.len();
+        rest = behind_plain_front(rest, left);
+        left -= before - rest.len();
+        since += before - rest.len();
     }
     (feeds + 1, since + 1)
 }

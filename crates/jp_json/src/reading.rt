@@ -3,11 +3,12 @@
 ghost use Rattle.std.specs.Prelude.{◌≡◌, IfOk};
 ghost use Rattle.std.specs.Str.{chars};
 ghost use Rattle.jp_json.specs.Private.Reading.{IsReading};
-ghost use Rattle.jp_json.specs.Private.Machine.{moved};
+ghost use Rattle.jp_json.specs.Private.Machine.{moved, top};
 ghost use Rattle.jp_json.specs.Private.Reading.{at_end, IsMoved};
 
 use crate::levels::Levels;
 use crate::machine::{first_in, may_end, step};
+use crate::run::behind_run;
 use crate::state::{Level, State, Step};
 use jp_reading::split_first;
 use std::alloc::{AllocError, Global};
@@ -39,19 +40,26 @@ pub(crate) struct Reading<'t> {
     pub stop: Stop,
 }
 
-/// What a step does to the levels: the state after it, or why there is none.
-fn moved(levels: &mut Levels, step: Step) -> Result<Result<State, Stop>, AllocError>
+/// What a step does to the levels, of which that is the innermost: the state after it and the innermost level, or why
+/// there is none.
+#[inline(always)]
+fn moved(
+    levels: &mut Levels,
+    innermost: Option<Level>,
+    step: Step,
+) -> Result<Result<(State, Option<Level>), Stop>, AllocError>
+    requires { innermost ≡ top levels.old }
     ensures { IfOk result (λ r. IsMoved levels.old step r levels.new) }
 {
     match step {
-        Step::Go(state) => Ok(Ok(state)),
+        Step::Go(state) => Ok(Ok((state, innermost))),
         Step::Open(_) if levels.spare() == 0 => Ok(Err(Stop::TooDeep)),
         Step::Open(level) => {
             levels.open(level)?;
-            Ok(Ok(first_in(level)))
+            Ok(Ok((first_in(level), Some(level))))
         }
         Step::Close => match levels.close() {
-            Some(_) => Ok(Ok(State::After)),
+            Some(_) => Ok(Ok((State::After, levels.top()))),
             None => Ok(Err(Stop::Unexpected)),
         },
         Step::Stuck => Ok(Err(Stop::Unexpected)),
@@ -77,10 +85,10 @@ pub(crate) fn read(alloc: Global, text: &str) -> Result<Reading, AllocError>
     let mut offset = 0;
     let mut rest = text;
     let mut state = State::Value;
+    let mut top = None;
     'characters: while let Some((next, after)) = split_first(rest) {
-        let top = levels.top();
-        match moved(&mut levels, step(top, state, next))? {
-            Ok(then) => state = then,
+        match moved(&mut levels, top, step(top, state, next))? {
+            Ok(then) => (state, top) = then,
             Err(stop) => {
                 return Ok(Reading {
                     offset,
@@ -91,10 +99,9 @@ pub(crate) fn read(alloc: Global, text: &str) -> Result<Reading, AllocError>
                 });
             }
         }
-        offset += next.len_utf8();
-        rest = after;
+        (state, rest) = behind_run(state, after);
+        offset = text.len() - rest.len();
     }
-    let top = levels.top();
     Ok(Reading {
         offset,
         rest,

@@ -1,12 +1,14 @@
 //! The strings and numbers of a JSON text.
 
-ghost use Rattle.std.specs.Prelude.{◌≡◌, ◌<◌, ◌≤◌, ◌+◌, true, IfOk, IfSome, length};
+ghost use Rattle.std.specs.Prelude.{◌≡◌, ◌<◌, ◌≤◌, ◌+◌, true, IfOk, IfSome, get_or, length};
 ghost use Rattle.jp_document.specs.Document.{HasDefect, not_json};
 ghost use Rattle.std.specs.Prelude.{IsUtf8};
 ghost use Rattle.std.specs.Str.{chars};
+ghost use Rattle.jp_reading.specs.Characters.{double_quote};
 ghost use Rattle.jp_json.specs.Grammar.{json_text};
-ghost use Rattle.jp_json.specs.Misreading.{IsNoValue, begins_scalar, cause_of, scalar};
+ghost use Rattle.jp_json.specs.Misreading.{IsNoValue, IsPlaceIn, begins_scalar, cause_of, scalar};
 ghost use Rattle.jp_json.specs.Private.Parts.{IsBlamed};
+ghost use Rattle.jp_json.specs.Private.Strings.{IsStringEnd};
 
 use crate::reading::{Stop, read};
 use crate::reason::JsonReason;
@@ -26,6 +28,7 @@ fn string_end(text: &[u8], from: usize) -> usize
     requires { from ≤ length text.now }
     ensures low { from ≤ result }
     ensures high { result ≤ length text.now }
+    ensures string { IsStringEnd text.now from result }
 {
     let mut at = from;
     'characters: while at < text.len() {
@@ -59,6 +62,9 @@ pub(crate) fn scalar_at(text: &[u8], start: usize) -> Option<Scalar>
     requires { start < length text.now }
     ensures start { IfSome result (λ s. s.start ≡ start) }
     ensures end { IfSome result (λ s. (start < s.end) × (s.end ≤ length text.now)) }
+    ensures string { IfSome result (λ s. get_or text.now start 0 ≡ double_quote
+        → IsStringEnd text.now (start + 1) s.end) }
+    ensures ascii { IfSome result (λ _. get_or text.now start 0 < 128) }
 {
     let end = match text[start] {
         b'"' => string_end(text, start + 1),
@@ -112,16 +118,32 @@ fn is_no_value(alloc: Global, part: &[u8]) -> Result<bool, AllocError>
     Ok(begins_scalar(part) && is_text && is_not_json)
 }
 
+/// Whether a string has half a surrogate pair or a number is beyond those of 64 bits, so that it is read alone to tell
+/// whether it is to blame.
+fn is_suspect(part: &[u8]) -> bool {
+    if part.first() == Some(&b'"') {
+        return lone_surrogate(part, 0) > 0;
+    }
+    let is_large = part.len() > 300 || part.iter().any(|b| *b == b'e' || *b == b'E');
+    is_large
+        && match fast_float::parse::<f64, _>(part) {
+            Ok(number) => number.is_infinite(),
+            Err(_) => true,
+        }
+}
+
 /// Of a JSON text that holds no value the first string or number that is to blame, and why.
 pub(crate) fn refused_scalar(alloc: Global, text: &[u8]) -> Result<(usize, JsonReason), AllocError>
-    ensures { IfOk result
+    ensures blamed { IfOk result
         (λ x. IsBlamed scalar IsNoValue text.now x.0 x.1) }
+    ensures place { IfOk result (λ x. IsUtf8 text.now → IsPlaceIn text.now x.0) }
 {
     let mut at = 0;
     'scalars: while at < text.len() {
         match scalar_at(text, at) {
             Some(found) => {
-                if is_no_value(alloc, &text[at..found.end])? {
+                let part = &text[at..found.end];
+                if is_suspect(part) && is_no_value(alloc, part)? {
                     return Ok(blamed(&text[..found.end], at));
                 }
                 at = found.end;
@@ -138,20 +160,24 @@ fn blamed(text: &[u8], start: usize) -> (usize, JsonReason)
     ensures low { start ≤ result.0 }
     ensures high { result.0 ≤ length text.now }
     ensures cause { cause_of result.1 ≡ scalar }
+    ensures ascii { get_or text.now start 0 < 128 → (result.0 < length text.now)
+        × (get_or text.now result.0 0 < 128) }
 {
     if text[start] == b'"' {
-        (lone_surrogate(text, start + 1), JsonReason::LoneSurrogate)
+        (lone_surrogate(text, start), JsonReason::LoneSurrogate)
     } else {
         (start, JsonReason::BeyondFloat)
     }
 }
 
-/// The backslash of the first escape of half a surrogate pair, in the string whose characters begin
-/// at that byte.
+/// The backslash of the first escape of half a surrogate pair, in the string that begins at that byte; the
+/// byte itself where there is none.
 fn lone_surrogate(text: &[u8], from: usize) -> usize
     requires { from ≤ length text.now }
     ensures low { from ≤ result }
     ensures high { result ≤ length text.now }
+    ensures ascii { from < length text.now → get_or text.now from 0 < 128
+        → (result < length text.now) × (get_or text.now result 0 < 128) }
 {
     let mut at = from;
     'characters: while at < text.len() {

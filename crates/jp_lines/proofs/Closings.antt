@@ -34,9 +34,9 @@ module _ {I R W E : Type 0} (opens : I → List ℕ → Result R Unopened → I 
     (remaining : R → Option (List ℕ)) (has_failed : R → Bool)
     (read_gives : R → Option (List ℕ) → R → Type 0) (contents : W → Option (List ℕ))
     (writes_failed : W → Bool) (write_takes : W → Option (List ℕ) → W → Type 0)
-    (reports : E → Option (List ℕ)) (reports_failed : E → Bool) where
+    (holds_back : W → Bool) (reports : E → Option (List ℕ)) (reports_failed : E → Bool) where
   abbrev Runs : Job → I → I → W → W → E → E → Result Ended Unbegun → Type 0
-  Runs = RunsJob opens remaining has_failed read_gives contents writes_failed write_takes reports
+  Runs = RunsJob opens remaining has_failed read_gives contents writes_failed write_takes holds_back reports
       reports_failed
 
   module _ (job : Job) (a : I) (o : W) (u : E) where
@@ -97,7 +97,7 @@ module _ {I R W E : Type 0} (opens : I → List ℕ → Result R Unopened → I 
         → asked words ≡ Some job → Runs job a b o p u v (Err given)
         → status ≡ status_of_unbegun given
         → TellsUnbegun reports reports_failed job.profile given (hung_up p) v w
-        → RunsProgram opens remaining has_failed read_gives contents writes_failed write_takes reports
+        → RunsProgram opens remaining has_failed read_gives contents writes_failed write_takes holds_back reports
         reports_failed hung_up words a b o p u w status
     ends-unbegun hung_up words given status w asks runs is tells =
         let quiet = unbegun-quiet given runs in

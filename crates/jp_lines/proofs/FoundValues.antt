@@ -1,27 +1,22 @@
--- What is written of the value that was found at the location that a query names.
-use Rattle.std.proofs.Common.{◌≡◌, ℕ, List, Option, Some, None, is_some, map, option_map, option_to_list, ap, refl, sym}
-use Rattle.std.proofs.Common.{◌∙◌, if◌then◌else◌, length}
-use Rattle.jp_document.specs.Location.{step_of, value_at}
+-- What is written of the value that was read at the location that a query names.
+use Rattle.std.proofs.Common.{◌≡◌, List, Option, Some, None, ap, is_some, map, option_map, option_to_list}
+use Rattle.std.proofs.Common.{◌∙◌, if◌then◌else◌, length, refl}
+use Rattle.std.specs.Borrow.{Bor}
+use Rattle.jp_document.specs.Location.{step_of}
 use Rattle.jp_document.specs.Node.{node_at}
 use Rattle.jp_document.specs.Value.{Value}
 use Rattle.jp_document.specs.declared.location.Step.{Step}
+use Rattle.jp_flat.specs.FlatValue.{document_in, flat_found}
+use Rattle.jp_flat.specs.declared.flat.Found.{Found}
+use Rattle.jp_held.specs.declared.portion.Excerpt.TheVariants as read
 use Rattle.jp_tree.specs.Tree.{QueryTree}
-use Rattle.jp_evaluate.specs.Named.{NamesLocation}
-use Rattle.jp_evaluate.specs.Nodelist.{nodelist}
+use Rattle.jp_evaluate.specs.Plan.{nodes_read}
 use Rattle.jp_command.specs.Found.{found_nodes}
-use Rattle.jp_lines.specs.Task.{nodes_output, nodes_within}
+use Rattle.jp_lines.specs.Task.{nodes_within}
 use Rattle.jp_lines.specs.declared.options.Extent.{Extent}
 use Rattle.jp_lines.specs.declared.options.Extent.TheVariants.{All, First}
-use Rattle.jp_lines.specs.declared.options.Wanted.{Wanted}
 
 module _ {V : Type 0} (m : V → Value) where
-  -- it is the one node that the query selects
-  found-selected : (q : QueryTree) (d : Value) (ks : List Step) (found : Option V)
-      → NamesLocation q (map step_of ks) → value_at d (map step_of ks) ≡ option_map m found
-      → found_nodes m ks found ≡ nodelist q d
-  found-selected q d ks found names at =
-      ap (λ o. map (node_at (map step_of ks)) (option_to_list o)) (sym at) ∙ sym (names d)
-
   -- it is all nodes and the first alone
   found-within : (extent : Extent) (ks : List Step) (found : Option V)
       → found_nodes m ks found ≡ nodes_within extent (found_nodes m ks found)
@@ -29,25 +24,13 @@ module _ {V : Type 0} (m : V → Value) where
   found-within First ks None = refl
   found-within First ks (Some v) = refl
 
-  -- what is written of it
-  pub found-wanted : (wanted : Wanted) (extent : Extent) (lead : List ℕ) (q : QueryTree) (d : Value)
-      (ks : List Step) (found : Option V) → NamesLocation q (map step_of ks)
-      → value_at d (map step_of ks) ≡ option_map m found
-      → nodes_output wanted lead (found_nodes m ks found)
-      ≡ nodes_output wanted lead (nodes_within extent (nodelist q d))
-  found-wanted wanted extent lead q d ks found names at =
-      ap (nodes_output wanted lead)
-      (found-within extent ks found
-      ∙ ap (nodes_within extent) (found-selected q d ks found names at))
-
-  -- and as many are selected
-  pub found-counted : (extent : Extent) (q : QueryTree) (d : Value) (ks : List Step) (found : Option V)
-      → NamesLocation q (map step_of ks) → value_at d (map step_of ks) ≡ option_map m found
-      → length (found_nodes m ks found) ≡ length (nodes_within extent (nodelist q d))
-  found-counted extent q d ks found names at =
-      ap length
-      (found-within extent ks found
-      ∙ ap (nodes_within extent) (found-selected q d ks found names at))
+  -- it is the one node that was read for the query
+  pub found-read : (extent : Extent) (q : QueryTree) (l : Bor (List Step)) (found : Found)
+      (value : Option V) → option_map m value ≡ option_map document_in (flat_found found)
+      → found_nodes m l.now value ≡ nodes_within extent (nodes_read q (read.Value l found))
+  found-read extent q l found value same =
+      found-within extent l.now value
+      ∙ ap (λ o. nodes_within extent (map (node_at (map step_of l.now)) (option_to_list o))) same
 
   pub found_count : (ks : List Step) (found : Option V)
       → (if is_some found then 1 else 0) ≡ length (found_nodes m ks found)

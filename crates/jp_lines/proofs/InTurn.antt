@@ -11,7 +11,7 @@ use Rattle.jp_lines.specs.Inputs.{GoesOverInput, HaltsAmong, HaltsAt, LeavesUnre
 use Rattle.jp_lines.specs.Inputs.{RunsOut, lead_of_lines, name_before}
 use Rattle.jp_lines.specs.Inputs.{none, one_more, uncounted, unfinished, unopened as left_unopened}
 use Rattle.jp_lines.specs.Inputs.{untold}
-use Rattle.jp_lines.specs.Outcome.{plus, tally_of}
+use Rattle.jp_lines.specs.Outcome.{Overflows, plus, tally_of}
 use Rattle.jp_lines.specs.Private.Opening.{HaltsNext, IsAtStart, PassesNext, PassesOne, StopsLeaving, cut_of, opened, unopened}
 use Rattle.jp_lines.specs.Run.{GoesOver}
 use Rattle.jp_lines.specs.Task.{Task}
@@ -70,8 +70,8 @@ module _ (options : Options) (named : List (List ℕ)) {I R W E : Type 0}
     (opens : I → List ℕ → Result R Unopened → I → Type 0) (remaining : R → Option (List ℕ))
     (has_failed : R → Bool) (read_gives : R → Option (List ℕ) → R → Type 0)
     (contents : W → Option (List ℕ)) (writes_failed : W → Bool) (reports : E → Option (List ℕ))
-    (reports_failed : E → Bool) (task : Task) (most : Option ℕ) (name : List ℕ) (a b : I) (o p : W)
-    (u v : E) (tally : Tally) where
+    (reports_failed : E → Bool) (task : Task) (counted : Tally) (most : Option ℕ) (name : List ℕ)
+    (a b : I) (o p : W) (u v : E) (tally : Tally) where
   abbrev Over : Result ⊤ Stop → Type 0
   Over end = GoesOverInput options named opens remaining has_failed read_gives contents writes_failed
       reports reports_failed task most name a b o p u v tally end
@@ -82,7 +82,7 @@ module _ (options : Options) (named : List (List ℕ)) {I R W E : Type 0}
 
   abbrev Halts : Halt → Type 0
   Halts why = HaltsAt options named opens remaining has_failed read_gives contents writes_failed
-      reports reports_failed task most name a b o p u v tally why
+      reports reports_failed task counted most name a b o p u v tally why
 
   abbrev One : Result ⊤ Cut → Type 0
   One given = PassesOne (record options { reports = most }) opens remaining has_failed read_gives
@@ -165,14 +165,15 @@ module _ (options : Options) (named : List (List ℕ)) {I R W E : Type 0}
   one-fault f (unopened why at same quiet counts is) = cc
 
   abbrev Out : Tally → Type 0
-  Out counted = RunsOut options named opens remaining has_failed read_gives contents writes_failed
-      reports reports_failed task most name a b o p u v counted
+  Out known = RunsOut options named opens remaining has_failed read_gives contents writes_failed
+      reports reports_failed task counted most name a b o p u v known
 
   -- what the inputs count with it does not fit
-  pub one-uncounted : (given : Result ⊤ Cut) → One given → Out (tally_of [])
-  one-uncounted given (opened i j end at goes is) =
-      uncounted tally end (record { i = i; j = j; opened = at; goes = goes }) refl
-  one-uncounted given (unopened why at same quiet counts is) =
+  pub one-uncounted : (given : Result ⊤ Cut) → One given → Overflows (plus counted tally)
+      → Out (tally_of [])
+  one-uncounted given (opened i j end at goes is) over =
+      uncounted tally end (record { i = i; j = j; opened = at; goes = goes }) over refl
+  one-uncounted given (unopened why at same quiet counts is) over =
       untold (unread.Unopened why) (left_unopened why at same quiet refl)
 
   -- why a run ends at an input that was not read to its end

@@ -19,3 +19,5 @@ pub mod Matches
 pub mod QueryWords
 pub mod OneByOne
 pub mod Rows
+mod HandingOn
+mod Served

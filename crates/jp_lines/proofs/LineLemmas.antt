@@ -1,7 +1,7 @@
 -- One line: its answer, its refusal, and why a run stops at it.
 use Rattle.std.proofs.Common.{◌≡◌, ◌⊎◌, inl, inr, ℕ, suc, ◌≤◌, Bool, true, false, List, []}
 use Rattle.std.proofs.Common.{◌∷◌}
-use Rattle.std.proofs.Common.{length, Option, Result, Ok, Err, IfOk, IfErr}
+use Rattle.std.proofs.Common.{length, Option, Some, Result, Ok, Err, IfOk, IfErr}
 use Rattle.std.proofs.Common.{subst, refl, sym, ◌∙◌, ap, arith}
 use Rattle.std.proofs.KnownBytes.{Keeps-refl}
 use Rattle.std.proofs.lemmas.List.{append-nil}
@@ -12,27 +12,30 @@ use Rattle.jp_document.specs.Document.{IsDocument, IsDocumentFault}
 use Rattle.jp_document.specs.Value.{Value}
 use Rattle.jp_document.specs.declared.fault.DocumentFault.{DocumentFault}
 use Rattle.jp_document.specs.declared.fault.DocumentFault.TheVariants as document
-use Rattle.jp_evaluate.specs.declared.evaluation_fault.EvaluationFault.{EvaluationFault}
-use Rattle.jp_evaluate.specs.declared.evaluation_fault.EvaluationFault.TheVariants as evaluation
+use Rattle.jp_limit.specs.OutputLimit.{StaysWithin}
 use Rattle.jp_command.specs.Limits.{document_limit}
 use Rattle.jp_command.specs.Output.{AppendsPrefix, StopsWriting, WritesAll}
+use Rattle.jp_command.specs.Selecting.{IsBeyond}
+use Rattle.jp_command.specs.declared.selection_fault.SelectionFault.{SelectionFault}
+use Rattle.jp_command.specs.declared.selection_fault.SelectionFault.TheVariants as selection
 use Rattle.jp_command.specs.declared.fault.Fault.{Fault}
 use Rattle.jp_command.specs.declared.fault.Fault.TheVariants as fault
 use Rattle.jp_command.proofs.Streams.{Appends-keeps, prefix-whole}
 use Rattle.jp_lines.specs.Lines.{is_blank_line}
 use Rattle.jp_lines.specs.Outcome.{LineOutcome, Answered, Blank, Refused, ComesTo, blank, document}
-use Rattle.jp_lines.specs.Outcome.{IsDefective, IsRefusal, defective, no_document, steps_used_up}
-use Rattle.jp_lines.specs.Outcome.{lead_of, left_after, plus, refusals, tally_in, tally_of, told_of_all}
+use Rattle.jp_lines.specs.Outcome.{IsDefective, IsRefusal, defective, no_document, steps_used_up, too_large}
+use Rattle.jp_lines.specs.Outcome.{too_many_bytes, too_many_nodes}
+use Rattle.jp_lines.specs.Outcome.{left_after, output_for, plus, refusals, tally_in, tally_of, told_of_all}
 use Rattle.jp_lines.specs.Outcome.{written_of}
 use Rattle.jp_lines.specs.Run.{Goes, GoesInPart, WritesInPart}
 use Rattle.jp_lines.specs.Told.{Tells}
 use Rattle.jp_lines.specs.Private.Answers.{AnswersOrRefuses, AnswersInPart, AnswersLine}
-use Rattle.jp_lines.specs.Private.Answers.{StopsAnswering}
+use Rattle.jp_lines.specs.Private.Answers.{IsDefectOfBytes, StopsAnswering}
 use Rattle.jp_lines.specs.Private.Answers.{defect_of}
-use Rattle.jp_lines.specs.Private.Limits.{WritesOrGivesUp, stop_of}
+use Rattle.jp_lines.specs.Private.Limits.{WritesOrGivesUp, WritesWithin, stop_of}
 use Rattle.jp_lines.specs.Private.Passing.{GoesThrough, Standing, StopsEnding, kept_of}
 use Rattle.jp_lines.specs.Private.Treating.{Treats}
-use Rattle.jp_lines.specs.Task.{Task, mark_behind_number, selected_in, written_for}
+use Rattle.jp_lines.specs.Task.{Task, selected_in}
 use Rattle.jp_lines.specs.declared.answer.Reply.{Reply}
 use Rattle.jp_lines.specs.declared.answer.Reply.TheVariants as reply
 use Rattle.jp_lines.specs.declared.answer.Reply.TheVariants.{Written}
@@ -54,75 +57,138 @@ pub err-is : {T E : Type 0} (r : Result T E) (e : E) (P : E → Type 0) → IsEr
 err-is (Ok x) e P is holds = absurd is
 err-is (Err x) e P is holds = subst P (sym is) holds
 
+-- the defect of a line that is no document is the fault of its bytes
+pub defect-of_bytes : (options : Options) (task : Task) (number : ℕ) (line : List ℕ) (d : Defect)
+    → IsDefective options task number line d → IsDefectOfBytes line d
+defect-of_bytes options task number line d (no_document fault few some is known) = is
+defect-of_bytes options task number line d (too_large many) = tt
+defect-of_bytes options task number line d (steps_used_up doc made few some is limit) = tt
+defect-of_bytes options task number line d (too_many_nodes doc few some is beyond) = tt
+defect-of_bytes options task number line d (too_many_bytes doc few some is beyond) = tt
+
 -- where a text could not be made, nothing of it is written
 pub stops-made : {W : Type 0} (contents : W → Option (List ℕ)) (has_failed : W → Bool)
-    (f : EvaluationFault) (made : ℕ) (text : List ℕ) (o : W)
+    (f : SelectionFault) (made : ℕ) (text : List ℕ) (o : W)
     → IfErr (stop_of f made) (StopsWriting contents has_failed o o text)
-stops-made contents has_failed evaluation.NoMemory made text o = (
+stops-made contents has_failed selection.NoMemory made text o = (
   record { prefix = []; rest = text; is = refl; written = Appends-none (contents o) },
   refl,
 )
-stops-made contents has_failed evaluation.StepsUsedUp made text o = tt
+stops-made contents has_failed selection.StepsUsedUp made text o = tt
+stops-made contents has_failed selection.TooManyNodes made text o = tt
+stops-made contents has_failed selection.TooManyBytes made text o = tt
+
+module _ {W : Type 0} (contents : W → Option (List ℕ)) (has_failed : W → Bool) (options : Options)
+    (count : ℕ) (text : List ℕ) (o : W) where
+  pub within-made : (f : SelectionFault) (made : ℕ)
+      → IfErr (stop_of f made) (WritesWithin contents has_failed options count text o o)
+  within-made selection.NoMemory made = inl (refl, refl)
+  within-made selection.StepsUsedUp made = tt
+  within-made selection.TooManyNodes made = tt
+  within-made selection.TooManyBytes made = tt
+
+  -- why it could not is told
+  pub gives-up : (f : SelectionFault) (made : ℕ)
+      → IsBeyond options.output_limit count (length text) f
+      → (f ≡ selection.StepsUsedUp → options.limit ≡ Some made)
+      → IfOk (stop_of f made) (WritesOrGivesUp contents has_failed options count text o o)
+  gives-up selection.NoMemory made beyond spent = tt
+  gives-up selection.StepsUsedUp made beyond spent = (spent refl, refl)
+  gives-up selection.TooManyNodes made beyond spent = (beyond, refl)
+  gives-up selection.TooManyBytes made beyond spent = (beyond, refl)
 
 module _ {W : Type 0} (contents : W → Option (List ℕ)) (has_failed : W → Bool) (options : Options)
     (task : Task) (n : ℕ) (line : List ℕ) where
   abbrev output : Value → List ℕ
-  output d = written_for task (lead_of (mark_behind_number task) options.numbered n) line d
+  output d = output_for options task n line d
 
   pub answers-blank : (o : W) → length line ≤ document_limit → is_blank_line line ≡ true
       → AnswersOrRefuses contents has_failed options task n line o o reply.Blank
   answers-blank o few is = (blank few is, refl)
 
-  pub answers-document : (d : Value) (o p : W) → length line ≤ document_limit
+  answers-document : (d : Value) (o p : W) → length line ≤ document_limit
       → is_blank_line line ≡ false → IsDocument line d
+      → StaysWithin options.output_limit (selected_in task d) (length (output d))
       → WritesAll contents has_failed o p (output d) → (selected : ℕ) → selected ≡ selected_in task d
       → AnswersLine contents has_failed options task n line o p selected
-  answers-document d o p few some is writes selected same = record {
+  answers-document d o p few some is within writes selected same = record {
     output = output d;
     comes = subst (λ b. ComesTo options task n line (Answered b (output d))) (sym same)
-        (document d few some is);
+        (document d few some is within);
     writes = writes;
   }
 
   -- it is written, or given up
   pub answers-wanted : (d : Value) (o p : W) (given : Reply) → length line ≤ document_limit
       → is_blank_line line ≡ false → IsDocument line d
-      → WritesOrGivesUp contents has_failed options.limit (selected_in task d) (output d) o p given
+      → WritesOrGivesUp contents has_failed options (selected_in task d) (output d) o p given
       → AnswersOrRefuses contents has_failed options task n line o p given
   answers-wanted d o p reply.Blank few some is up = absurd up
   answers-wanted d o p (Written selected) few some is writes =
-      answers-document d o p few some is writes.1 selected writes.0
+      answers-document d o p few some is writes.1 writes.2 selected writes.0
   answers-wanted d o p (reply.Refused (defect.StepsUsedUp made)) few some is up =
       (steps_used_up d made few some is up.0, up.1)
-  answers-wanted d o p (reply.Refused (defect.Document f)) few some is up = absurd up
-  answers-wanted d o p (reply.Refused defect.TooLarge) few some is up = absurd up
+  answers-wanted d o p (reply.Refused defect.TooManyNodes) few some is up =
+      (too_many_nodes d few some is up.0, up.1)
+  answers-wanted d o p (reply.Refused defect.TooManyBytes) few some is up =
+      (too_many_bytes d few some is up.0, up.1)
+  answers-wanted d o p (reply.Refused (defect.Document f)) few some is up = absurd up.0
+  answers-wanted d o p (reply.Refused defect.TooLarge) few some is up = absurd up.0
 
   pub stops-document : (d : Value) (o p : W) (f : Fault) → length line ≤ document_limit
       → is_blank_line line ≡ false → IsDocument line d
       → StopsWriting contents has_failed o p (output d) f
+      → WritesWithin contents has_failed options (selected_in task d) (output d) o p f
       → StopsAnswering contents has_failed options task n line o p f
-  stops-document d o p fault.NoMemory few some is stops = (
+  stops-document d o p f few some is stops (inl none) =
+      subst (StopsAnswering contents has_failed options task n line o p) (sym none.0)
+      (inl none.1, ap has_failed none.1)
+  stops-document d o p fault.NoMemory few some is stops (inr within) = (
     inr (record {
       selected = selected_in task d;
       output = output d;
-      comes = document d few some is;
+      comes = document d few some is within;
       writes = stops.0;
     }),
     stops.1,
   )
-  stops-document d o p fault.Write few some is stops = (
+  stops-document d o p fault.Write few some is stops (inr within) = (
     record {
       selected = selected_in task d;
       output = output d;
-      comes = document d few some is;
+      comes = document d few some is within;
       writes = stops.0;
     },
     stops.1,
   )
-  stops-document d o p (fault.Query r) few some is stops = absurd stops
-  stops-document d o p (fault.Document f) few some is stops = absurd stops
-  stops-document d o p fault.DocumentTooLarge few some is stops = absurd stops
-  stops-document d o p fault.Read few some is stops = absurd stops
+  stops-document d o p (fault.Query r) few some is stops (inr within) = absurd stops
+  stops-document d o p (fault.Document f) few some is stops (inr within) = absurd stops
+  stops-document d o p fault.DocumentTooLarge few some is stops (inr within) = absurd stops
+  stops-document d o p fault.Read few some is stops (inr within) = absurd stops
+
+  -- both, where a count and a text are those of the document
+  module _ (d : Value) (o p : W) (count : ℕ) (text : List ℕ) (few : length line ≤ document_limit)
+      (some : is_blank_line line ≡ false) (is : IsDocument line d) (counted : count ≡ selected_in task d)
+      (same : text ≡ output d) where
+    pub answers-same : (given : Result Reply Fault)
+        → IfOk given (WritesOrGivesUp contents has_failed options count text o p)
+        → IfOk given (AnswersOrRefuses contents has_failed options task n line o p)
+    answers-same (Ok reply) writes =
+        answers-wanted d o p reply few some is
+        (subst (λ t. WritesOrGivesUp contents has_failed options (selected_in task d) t o p reply) same
+        (subst (λ k. WritesOrGivesUp contents has_failed options k text o p reply) counted writes))
+    answers-same (Err f) writes = tt
+
+    pub stops-same : (given : Result Reply Fault)
+        → IfErr given (StopsWriting contents has_failed o p text)
+        → IfErr given (WritesWithin contents has_failed options count text o p)
+        → IfErr given (StopsAnswering contents has_failed options task n line o p)
+    stops-same (Ok reply) stops within = tt
+    stops-same (Err f) stops within =
+        stops-document d o p f few some is
+        (subst (λ t. StopsWriting contents has_failed o p t f) same stops)
+        (subst (λ t. WritesWithin contents has_failed options (selected_in task d) t o p f) same
+        (subst (λ k. WritesWithin contents has_failed options k text o p f) counted within))
 
   -- what is no document is refused, and want of memory stops
   pub refuses-document : (f : DocumentFault) (o : W) → length line ≤ document_limit
@@ -210,7 +276,7 @@ module _ (options : Options) (lead : List ℕ) {W E : Type 0} (contents : W → 
       counts
 
   pub treats-refused : (d : Defect) (r : RefusedLine) (after : Tally) (o p : W) (u v : E)
-      → IsDefective options kept d → IsRefusal options n kept d r → p ≡ o
+      → IsDefective options task n kept d → IsRefusal options n kept d r → p ≡ o
       → Tells reports reports_failed u v (told_of_all lead left (Refused r ∷ []))
       → options.keep_going ≡ true → after ≡ plus before (tally_in (Refused r)) → Treated after o p u v
   treats-refused d r after o p u v has of same tells going counts = record {
@@ -337,7 +403,8 @@ module _ (options : Options) (lead : List ℕ) {W E : Type 0} (contents : W → 
       ends-exhausted o p u u (part-none o p u u same refl) (ap writes_failed same)
 
   -- its refusal stops the run, or there is no memory to tell it
-  pub stops-refusing : (d : Defect) (o p : W) (u v : E) (why : Stop) → IsDefective options kept d
+  pub stops-refusing : (d : Defect) (o p : W) (u v : E) (why : Stop)
+      → IsDefective options task n kept d
       → p ≡ o → v ≡ u
       → (why ≡ stop.Run fault.NoMemory)
       ⊎ (((r : RefusedLine) × IsRefusal options n kept d r × (why ≡ stop.Line r))

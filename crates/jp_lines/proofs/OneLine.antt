@@ -69,7 +69,7 @@ module _ (profile : Profile) {R W E : Type 0} (remaining : R → Option (List �
       → Output form text i j (written_of x)
   outcome-is form options q text bytes i j x numbered asked reads some unrefused (blank few is) = cc
   outcome-is form options q text bytes i j x numbered asked reads some unrefused
-      (document d few is doc) = record {
+      (document d few is doc within) = record {
         q = q;
         bytes = bytes;
         d = d;

@@ -5,7 +5,7 @@ use Rattle.std.proofs.lemmas.List.{length-take, take_all}
 use Rattle.jp_command.specs.Limits.{document_limit}
 use Rattle.jp_lines.specs.Outcome.{LineOutcome, Refused, ComesTo, ComeTo, none, one_more}
 use Rattle.jp_lines.specs.Outcome.{IsDefective, IsRefusal, blank, document, no_document, defective}
-use Rattle.jp_lines.specs.Outcome.{steps_used_up, too_large}
+use Rattle.jp_lines.specs.Outcome.{steps_used_up, too_large, too_many_bytes, too_many_nodes}
 use Rattle.jp_lines.specs.Outcome.{refusal_in, refusals}
 use Rattle.jp_lines.specs.Private.Passing.{kept_of}
 use Rattle.jp_lines.specs.Task.{Task}
@@ -47,7 +47,7 @@ module _ (options : Options) (task : Task) where
 
   -- a refusal of a line is seen from what is kept of it
   refused-kept : (n : ℕ) (l : List ℕ) (d : Defect) (r : RefusedLine)
-      → IsDefective options (kept_of l) d → IsRefusal options n (kept_of l) d r
+      → IsDefective options task n (kept_of l) d → IsRefusal options n (kept_of l) d r
       → ComesTo options task n l (Refused r)
   refused-kept n l d r (no_document fault few some is known) of =
       subst (λ t. ComesTo options task n t (Refused r)) (kept-all l few)
@@ -58,20 +58,26 @@ module _ (options : Options) (task : Task) where
   refused-kept n l d r (steps_used_up doc made few some is limit) of =
       subst (λ t. ComesTo options task n t (Refused r)) (kept-all l few)
       (defective d r (steps_used_up doc made few some is limit) of)
+  refused-kept n l d r (too_many_nodes doc few some is beyond) of =
+      subst (λ t. ComesTo options task n t (Refused r)) (kept-all l few)
+      (defective d r (too_many_nodes doc few some is beyond) of)
+  refused-kept n l d r (too_many_bytes doc few some is beyond) of =
+      subst (λ t. ComesTo options task n t (Refused r)) (kept-all l few)
+      (defective d r (too_many_bytes doc few some is beyond) of)
 
   -- and so is what a line comes to
   pub comes-kept : (n : ℕ) (l : List ℕ) (x : LineOutcome) → ComesTo options task n (kept_of l) x
       → ComesTo options task n l x
   comes-kept n l x (blank few is) = subst (λ t. ComesTo options task n t x) (kept-all l few) (blank few is)
-  comes-kept n l x (document d few some is) =
-      subst (λ t. ComesTo options task n t x) (kept-all l few) (document d few some is)
+  comes-kept n l x (document d few some is within) =
+      subst (λ t. ComesTo options task n t x) (kept-all l few) (document d few some is within)
   comes-kept n l x (defective d r has of) = refused-kept n l d r has of
 
   -- a line that is not refused is not too large
   few-one : (n : ℕ) (l : List ℕ) (x : LineOutcome) → ComesTo options task n l x → refusal_in x ≡ []
       → length l ≤ document_limit
   few-one n l x (blank few is) unrefused = few
-  few-one n l x (document d few some is) unrefused = few
+  few-one n l x (document d few some is within) unrefused = few
   few-one n l x (defective d r has of) unrefused = cc
 
   -- and so the last one of lines that are not refused is not

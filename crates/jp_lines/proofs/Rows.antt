@@ -25,6 +25,7 @@ plain =
       summary = false;
       reports = None;
       limit = None;
+      output_limit = record { nodes = None; bytes = None };
     }
 
 -- a job over these inputs
@@ -98,6 +99,19 @@ limit_too_great :
     ∷ codes "$" ∷ []) ≡ None
 unfolding clap_on_literals jp_lines with_columns with_keep with_selections keep_app values_app lines_app columns_app queries_app query_app
 limit_too_great = refl
+
+output_limit :
+    asked (codes "jp-lines" ∷ codes "paths" ∷ codes "--max-bytes" ∷ codes "5" ∷ codes "$"
+    ∷ codes "--max-nodes=18446744073709551615" ∷ [])
+    ≡ over [] (record plain { output_limit = record { nodes = Some 18446744073709551615; bytes = Some 5 } })
+    (SelectBy (Nodes Paths) All (codes "$")) Standard
+unfolding clap_on_literals jp_lines with_columns with_keep with_selections keep_app values_app lines_app columns_app queries_app query_app
+output_limit = refl
+
+output_limit_of_none :
+    asked (codes "jp-lines" ∷ codes "keep" ∷ codes "--max-nodes" ∷ codes "0" ∷ codes "@" ∷ []) ≡ None
+unfolding clap_on_literals jp_lines with_columns with_keep with_selections keep_app values_app lines_app columns_app queries_app query_app
+output_limit_of_none = refl
 
 first_and_status :
     asked (codes "jp-lines" ∷ codes "paths" ∷ codes "--first" ∷ codes "$" ∷ codes "--exit-status" ∷ [])

@@ -18,6 +18,7 @@ use Rattle.jp_cells.specs.declared.style.Format.TheVariants.{Csv, Tabs}
 use Rattle.jp_cells.specs.declared.style.Style.{Style}
 use Rattle.jp_command.specs.CommandLine.{is_set, profile_asked, query_app, with_flag}
 use Rattle.jp_command.specs.declared.lines.Form.TheVariants.{Values, Paths, Both, RawValues, RawBoth}
+use Rattle.jp_limit.specs.declared.output_limit.OutputLimit.{OutputLimit}
 use Rattle.jp_lines.specs.Request.{ColumnsBy, Job, KeepBy, Request, SelectBy}
 use Rattle.jp_lines.specs.declared.options.Extent.{Extent}
 use Rattle.jp_lines.specs.declared.options.Extent.TheVariants.{All, First}
@@ -38,10 +39,15 @@ with_number app name parser = with_rule app (record (new_rule name) {
   parser = Some parser;
 })
 
+-- the command with the options that limit what is done for one document
+abbrev pub with_limits : App → App
+with_limits app = with_number (with_number (with_number app
+    (codes "limit") (Unsigned 1 greatest)) (codes "max-nodes") (Unsigned 1 greatest))
+    (codes "max-bytes") (Unsigned 1 greatest)
+
 -- the command with the options of a run over lines, whose values are numbers
 abbrev pub with_line_numbers : App → App
-with_line_numbers app = with_number (with_number app (codes "reports") (Unsigned 0 greatest))
-    (codes "limit") (Unsigned 1 greatest)
+with_line_numbers app = with_limits (with_number app (codes "reports") (Unsigned 0 greatest))
 
 -- the command with the flags that say what a run tells
 abbrev pub with_tellings : App → App
@@ -129,6 +135,13 @@ number_in text = if is_unsigned_in 0 greatest text
 abbrev pub number_asked : Text → List Row → Option ℕ
 number_asked name rows = option_and_then number_in (one_of name rows)
 
+-- what may come out of one document at most
+abbrev pub output_limit_asked : List Row → OutputLimit
+output_limit_asked rows = record {
+  nodes = number_asked (codes "max-nodes") rows;
+  bytes = number_asked (codes "max-bytes") rows;
+}
+
 -- what the flags and the options ask for
 abbrev pub options_asked : List Row → Options
 options_asked rows = record {
@@ -140,6 +153,7 @@ options_asked rows = record {
   summary = is_set (codes "summary") rows;
   reports = number_asked (codes "reports") rows;
   limit = number_asked (codes "limit") rows;
+  output_limit = output_limit_asked rows;
 }
 
 -- of which nodes it is written: with `--first` of the first alone

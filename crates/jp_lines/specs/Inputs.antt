@@ -2,7 +2,7 @@
 use Rattle.std.specs.Prelude.{◌≡◌, ◌≢◌, ◌⊎◌, ⊤, ℕ, Bool, true, false, ◌||◌, List, [], ◌∷◌, ◌++◌, codes}
 use Rattle.std.specs.Prelude.{Option, Result, Ok, Err, string_bytes}
 use Rattle.jp_command.specs.declared.fault.Fault.TheVariants.{NoMemory, Read, Write}
-use Rattle.jp_lines.specs.Outcome.{left_after, plus, tally_of}
+use Rattle.jp_lines.specs.Outcome.{Overflows, left_after, plus, tally_of}
 use Rattle.jp_lines.specs.Run.{GoesOver}
 use Rattle.jp_lines.specs.Task.{Task}
 use Rattle.jp_lines.specs.Told.{Tells}
@@ -104,32 +104,34 @@ module _ (options : Options) (named : List (List ℕ)) {I R W E : Type 0}
           → PassesInput (left_after tally.refused options.reports) name b c p q v w more this
           → PassesInputs a o u (names ++ name ∷ []) c q w (plus tally more) (unread || this)
 
-  -- Memory ran out at the input of that name: before it was opened; or it was gone over, and what the
-  -- inputs count with it does not fit 64 bits; or it could not be told that it was not read to its end.
-  pub data RunsOut (most : Option ℕ) (name : List ℕ) (a b : I) (o p : W) (u v : E) (tally : Tally)
-      : Type 0 where
-    before : b ≡ a → p ≡ o → v ≡ u → tally ≡ tally_of [] → RunsOut most name a b o p u v tally
+  -- Memory ran out at the input of that name, where those before it count `counted`: before it was
+  -- opened; or it was gone over, and what the inputs count with it does not fit 64 bits; or it could not
+  -- be told that it was not read to its end.
+  pub data RunsOut (counted : Tally) (most : Option ℕ) (name : List ℕ) (a b : I) (o p : W) (u v : E)
+      (tally : Tally) : Type 0 where
+    before : b ≡ a → p ≡ o → v ≡ u → tally ≡ tally_of []
+        → RunsOut counted most name a b o p u v tally
     uncounted : (more : Tally) (end : Result ⊤ Stop)
-        → GoesOverInput most name a b o p u v more end → tally ≡ tally_of []
-        → RunsOut most name a b o p u v tally
+        → GoesOverInput most name a b o p u v more end → Overflows (plus counted more)
+        → tally ≡ tally_of [] → RunsOut counted most name a b o p u v tally
     untold : (why : Unread) → LeavesUnread most name a b o p u v tally why
-        → RunsOut most name a b o p u v tally
+        → RunsOut counted most name a b o p u v tally
 
-  -- why the run ended at the input of that name, which counts that
-  abbrev pub HaltsAt : Option ℕ → List ℕ → I → I → W → W → E → E → Tally → Halt → Type 0
-  HaltsAt most name a b o p u v tally (halt.Line lead r) =
+  -- why the run ended at the input of that name, which counts that, where those before it count `counted`
+  abbrev pub HaltsAt : Tally → Option ℕ → List ℕ → I → I → W → W → E → E → Tally → Halt → Type 0
+  HaltsAt counted most name a b o p u v tally (halt.Line lead r) =
       (string_bytes lead ≡ lead_of_lines named name)
       × GoesOverInput most name a b o p u v tally (Err (Line r))
-  HaltsAt most name a b o p u v tally (halt.Input lead why) =
+  HaltsAt counted most name a b o p u v tally (halt.Input lead why) =
       ((options.keep_going ≡ false) ⊎ (named ≡ []))
       × (string_bytes lead ≡ lead_of_input named name)
       × LeavesUnread most name a b o p u v tally why
-  HaltsAt most name a b o p u v tally (halt.Fault NoMemory) =
+  HaltsAt counted most name a b o p u v tally (halt.Fault NoMemory) =
       GoesOverInput most name a b o p u v tally (Err (Run NoMemory))
-      ⊎ RunsOut most name a b o p u v tally
-  HaltsAt most name a b o p u v tally (halt.Fault Write) =
+      ⊎ RunsOut counted most name a b o p u v tally
+  HaltsAt counted most name a b o p u v tally (halt.Fault Write) =
       GoesOverInput most name a b o p u v tally (Err (Run Write))
-  HaltsAt most name a b o p u v tally (halt.Fault _) = ⊥
+  HaltsAt counted most name a b o p u v tally (halt.Fault _) = ⊥
 
   -- some of these inputs, at the front, were gone over, and the run ended at the next one; they count that
   pub record HaltsAmong (inputs : List (List ℕ)) (a b : I) (o p : W) (u v : E) (passed : Passed)
@@ -144,7 +146,7 @@ module _ (options : Options) (named : List (List ℕ)) {I R W E : Type 0}
     pub tally : Tally
     pub goes : PassesInputs a o u before c q w tally passed.unread
     pub more : Tally
-    pub halts : HaltsAt (left_after tally.refused options.reports) name c b q p w v more why
+    pub halts : HaltsAt tally (left_after tally.refused options.reports) name c b q p w v more why
     pub counts : passed.tally ≡ plus tally more
 
   -- how a run over all inputs ended, and what it has come to

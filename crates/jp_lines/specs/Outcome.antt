@@ -1,5 +1,6 @@
 -- What the lines of an input come to: a document with what is written of it, nothing, or a defect.
-use Rattle.std.specs.Prelude.{◌≡◌, ◌≢◌, ◌⊎◌, ℕ, suc, ◌+◌, ◌-◌, ◌<◌, ◌≤◌, ◌==◌, Bool, true, false, List}
+use Rattle.std.specs.Prelude.{◌≡◌, ◌≢◌, ◌⊎◌, ℕ, suc, ◌+◌, ◌-◌, ◌^◌, ◌<◌, ◌≤◌, ◌==◌, Bool, true, false}
+use Rattle.std.specs.Prelude.{List}
 use Rattle.std.specs.Prelude.{[], ◌∷◌, ◌++◌, Option, Some, None, length, codes, if◌then◌else◌}
 use Rattle.std.specs.Prelude.{string_bytes, take}
 use Rattle.std.specs.Fmt.{decimal}
@@ -10,6 +11,7 @@ use Rattle.jp_document.specs.Value.{Value}
 use Rattle.jp_document.specs.declared.fault.DocumentFault.{DocumentFault}
 use Rattle.jp_document.specs.declared.fault.DocumentFault.TheVariants.{NoMemory}
 use Rattle.jp_command.specs.Limits.{document_limit}
+use Rattle.jp_limit.specs.OutputLimit.{Exceeds, StaysWithin}
 use Rattle.jp_json.specs.Misreading.{IsMisreading}
 use Rattle.jp_json.specs.Told.{misreading_text}
 use Rattle.jp_json.specs.declared.misreading.Misreading.{Misreading}
@@ -19,7 +21,8 @@ use Rattle.jp_json.specs.declared.reason.JsonReason.TheVariants.{Unexpected}
 use Rattle.jp_lines.specs.Lines.{is_blank_line}
 use Rattle.jp_lines.specs.Task.{Task, mark_behind_number, selected_in, written_for}
 use Rattle.jp_lines.specs.declared.defect.Defect.{Defect}
-use Rattle.jp_lines.specs.declared.defect.Defect.TheVariants.{Document, TooLarge, StepsUsedUp}
+use Rattle.jp_lines.specs.declared.defect.Defect.TheVariants.{Document, StepsUsedUp, TooLarge}
+use Rattle.jp_lines.specs.declared.defect.Defect.TheVariants.{TooManyBytes, TooManyNodes}
 use Rattle.jp_lines.specs.declared.defect.RefusedLine.{RefusedLine}
 use Rattle.jp_lines.specs.declared.options.Options.{Options}
 use Rattle.jp_lines.specs.declared.tally.Tally.{Tally}
@@ -31,6 +34,8 @@ abbrev pub defect_text : Defect → List ℕ
 defect_text (Document fault) = codes "document refused: " ++ document_fault_text fault
 defect_text TooLarge = codes "document refused: DocumentTooLarge"
 defect_text (StepsUsedUp made) = codes "document refused: StepsUsedUp"
+defect_text TooManyNodes = codes "document refused: TooManyNodes"
+defect_text TooManyBytes = codes "document refused: TooManyBytes"
 
 -- what is said of a line that is refused
 abbrev pub refused_text : RefusedLine → List ℕ
@@ -99,6 +104,11 @@ plus a b = record {
   selected = a.selected + b.selected;
 }
 
+-- some number of it does not fit 64 bits
+abbrev pub Overflows : Tally → Type 0
+Overflows tally =
+    (2 ^ 64 ≤ tally.documents) ⊎ (2 ^ 64 ≤ tally.refused) ⊎ (2 ^ 64 ≤ tally.selected)
+
 -- what outcomes count
 abbrev pub tally_of : List LineOutcome → Tally
 tally_of [] = record { documents = 0; refused = 0; selected = 0 }
@@ -140,29 +150,42 @@ pub record IsRefusal (options : Options) (number : ℕ) (line : List ℕ) (defec
   pub defect_is : r.defect ≡ defect
   pub behind : IsToldBehind options number line defect (string_bytes r.explanation)
 
--- the line has this defect
-pub data IsDefective (options : Options) (line : List ℕ) : Defect → Type 0 where
-  no_document : (fault : DocumentFault) → length line ≤ document_limit
-      → is_blank_line line ≡ false → IsDocumentFault line fault → fault ≢ NoMemory
-      → IsDefective options line (Document fault)
-  too_large : document_limit < length line → IsDefective options line TooLarge
-  -- only where there is a limit: as many steps as it says were made over the document
-  steps_used_up : (d : Value) (made : ℕ) → length line ≤ document_limit
-      → is_blank_line line ≡ false → IsDocument line d → options.limit ≡ Some made
-      → IsDefective options line (StepsUsedUp made)
-
 -- how a run goes over its lines, and what it does with each document
 module _ (options : Options) (task : Task) where
+  -- what is to be written of the document d, which stands in the line of that number
+  abbrev pub output_for : ℕ → List ℕ → Value → List ℕ
+  output_for number line d =
+      written_for task (lead_of (mark_behind_number task) options.numbered number) line d
+
+  -- the line of that number has this defect
+  pub data IsDefective (number : ℕ) (line : List ℕ) : Defect → Type 0 where
+    no_document : (fault : DocumentFault) → length line ≤ document_limit
+        → is_blank_line line ≡ false → IsDocumentFault line fault → fault ≢ NoMemory
+        → IsDefective number line (Document fault)
+    too_large : document_limit < length line → IsDefective number line TooLarge
+    -- only where there is a limit: as many steps as it says were made over the document
+    steps_used_up : (d : Value) (made : ℕ) → length line ≤ document_limit
+        → is_blank_line line ≡ false → IsDocument line d → options.limit ≡ Some made
+        → IsDefective number line (StepsUsedUp made)
+    -- more nodes are selected in the document than may come out of one
+    too_many_nodes : (d : Value) → length line ≤ document_limit → is_blank_line line ≡ false
+        → IsDocument line d → Exceeds options.output_limit.nodes (selected_in task d)
+        → IsDefective number line TooManyNodes
+    -- more bytes are to be written of the document than may come out of one
+    too_many_bytes : (d : Value) → length line ≤ document_limit → is_blank_line line ≡ false
+        → IsDocument line d → Exceeds options.output_limit.bytes (length (output_for number line d))
+        → IsDefective number line TooManyBytes
+
   -- the line of that number comes to this
   pub data ComesTo (number : ℕ) (line : List ℕ) : LineOutcome → Type 0 where
     blank : length line ≤ document_limit → is_blank_line line ≡ true
         → ComesTo number line Blank
+    -- no more nodes are selected in the document, and no more bytes to be written, than may come out
     document : (d : Value) → length line ≤ document_limit → is_blank_line line ≡ false
         → IsDocument line d
-        → ComesTo number line
-        (Answered (selected_in task d)
-        (written_for task (lead_of (mark_behind_number task) options.numbered number) line d))
-    defective : (defect : Defect) (r : RefusedLine) → IsDefective options line defect
+        → StaysWithin options.output_limit (selected_in task d) (length (output_for number line d))
+        → ComesTo number line (Answered (selected_in task d) (output_for number line d))
+    defective : (defect : Defect) (r : RefusedLine) → IsDefective number line defect
         → IsRefusal options number line defect r → ComesTo number line (Refused r)
 
   -- the lines, numbered from there on, come to these, each to one

@@ -156,26 +156,27 @@ IsRefusedAs profile (ColumnsBy style named queries) (unbegun.Query text r) =
     RefusesFirst profile queries r text.now
 IsRefusedAs _ _ _ = ⊥
 
--- the output before and after a run's end: where no write has failed, it is flushed, and a flush that
--- fails is what ended the run
+-- The output before and after a run's end. Unless a write that failed is what ended the run, it is
+-- flushed, and then holds nothing back; and a flush that fails is what ended the run.
 pub data Flushes {W : Type 0} (contents : W → Option (List ℕ)) (has_failed : W → Bool)
-    (write_takes : W → Option (List ℕ) → W → Type 0) (o p : W) (end given : Result ⊤ Halt) : Type 0
+    (write_takes : W → Option (List ℕ) → W → Type 0) (holds_back : W → Bool) (o p : W)
+    (end given : Result ⊤ Halt) : Type 0
   where
-    unflushed : has_failed o ≡ true → p ≡ o → given ≡ end
-        → Flushes contents has_failed write_takes o p end given
-    flushed : has_failed o ≡ false → has_failed p ≡ false → Keeps (contents o) (contents p)
+    unflushed : end ≡ Err (halt.Fault Write) → p ≡ o → given ≡ end
+        → Flushes contents has_failed write_takes holds_back o p end given
+    flushed : has_failed p ≡ has_failed o → holds_back p ≡ false → Keeps (contents o) (contents p)
         → write_takes o (Some []) p → given ≡ end
-        → Flushes contents has_failed write_takes o p end given
-    failed : has_failed o ≡ false → has_failed p ≡ true → Keeps (contents o) (contents p)
-        → write_takes o None p → given ≡ Err (halt.Fault Write)
-        → Flushes contents has_failed write_takes o p end given
+        → Flushes contents has_failed write_takes holds_back o p end given
+    failed : has_failed p ≡ true → Keeps (contents o) (contents p) → write_takes o None p
+        → given ≡ Err (halt.Fault Write)
+        → Flushes contents has_failed write_takes holds_back o p end given
 
 -- a and b is what opens inputs before and after, o and p the output, u and v what takes reports
 module _ {I R W E : Type 0} (opens : I → List ℕ → Result R Unopened → I → Type 0)
     (remaining : R → Option (List ℕ)) (has_failed : R → Bool)
     (read_gives : R → Option (List ℕ) → R → Type 0) (contents : W → Option (List ℕ))
     (writes_failed : W → Bool) (write_takes : W → Option (List ℕ) → W → Type 0)
-    (reports : E → Option (List ℕ)) (reports_failed : E → Bool) where
+    (holds_back : W → Bool) (reports : E → Option (List ℕ)) (reports_failed : E → Bool) where
   -- what the run writes first is written, it went over its inputs, and its output is flushed
   pub record RunsWhole (options : Options) (request : Request) (named : List (List ℕ)) (task : Task)
       (a b : I) (o p : W) (u v : E) (ended : Ended) : Type 0 where
@@ -185,7 +186,7 @@ module _ {I R W E : Type 0} (opens : I → List ℕ → Result R Unopened → I 
     pub end : Result ⊤ Halt
     pub runs : RunsOver options named opens remaining has_failed read_gives contents writes_failed
         reports reports_failed task a b begun gone u v ended.passed end
-    pub flushes : Flushes contents writes_failed write_takes gone p end ended.end
+    pub flushes : Flushes contents writes_failed write_takes holds_back gone p end ended.end
 
   -- What a run says. Where a query is refused, or memory ran out before all are read, nothing is
   -- written; where they are accepted and it can't begin, what it begins with is written in part. Neither
@@ -215,8 +216,8 @@ module _ {I R W E : Type 0} (opens : I → List ℕ → Result R Unopened → I 
   -- `hung_up` tells of the output whether what reads it hung up
   module _ (hung_up : W → Bool) where
     -- What is said with a status. Where the words are not ones that the command line takes, clap's text is
-    -- told, of which its contract says nothing; the one of help and of the version is written. Where a
-    -- write failed because what reads the output hung up, nothing is told of that.
+    -- told, of which its contract says nothing; the one of help and of the version is written, and then
+    -- nothing of it is held back. Where a write failed because what reads the output hung up, nothing is told of that.
     pub data RunsProgram (words : List (List ℕ)) (a b : I) (o p : W) (u v : E) (status : ℕ) : Type 0
       where
         ended : (ended : Ended) (between : E) → (run : RunEnds words a b o p u between (Ok ended))
@@ -227,7 +228,8 @@ module _ {I R W E : Type 0} (opens : I → List ℕ → Result R Unopened → I 
             → TellsUnbegun reports reports_failed run.job.profile why (hung_up p) u v
             → RunsProgram words a b o p u v status
         shown : status ≡ 0 → AsksToShow words → b ≡ a → v ≡ u → AppendsSome (contents o) (contents p)
-            → writes_failed p ≡ writes_failed o → RunsProgram words a b o p u v status
+            → writes_failed p ≡ writes_failed o → holds_back p ≡ false
+            → RunsProgram words a b o p u v status
         shown_in_part : status ≡ 5 → AsksToShow words → b ≡ a → AppendsSome (contents o) (contents p)
             → writes_failed p ≡ true → TellsWriteFault reports reports_failed (hung_up p) u v
             → RunsProgram words a b o p u v status

@@ -21,7 +21,7 @@ columns_task made = Tabulate made.style (map (λ c. query_of c.query) made.queri
 
 abbrev pub task_of : task.Task → Task
 task_of (tasks.Select selected) = selection_task selected
-task_of (tasks.Keep filter) = Keep (expr_of filter.now.expr)
+task_of (tasks.Keep keeping) = Keep (expr_of keeping.filter.now.expr)
 task_of (tasks.Tabulate made) = columns_task made
 
 abbrev pub request_of : request.Request → Request

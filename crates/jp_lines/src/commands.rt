@@ -6,8 +6,9 @@ ghost use Rattle.clap.specs.declared.builder.command.Command.TheViews.{out-Comma
 ghost use Rattle.clap.specs.declared.error.kind.ErrorKind.TheVariants.{MissingSubcommand};
 ghost use Rattle.jp_lines.specs.CommandLine.{columns_app, jp_lines, keep_app, lines_app, queries_app};
 ghost use Rattle.jp_lines.specs.CommandLine.{values_app, with_columns, with_files, with_keep};
-ghost use Rattle.jp_lines.specs.CommandLine.{with_line_flags, with_line_numbers, with_lines};
-ghost use Rattle.jp_lines.specs.CommandLine.{with_number, with_selections, with_tellings, with_values};
+ghost use Rattle.jp_lines.specs.CommandLine.{with_limits, with_line_flags, with_line_numbers};
+ghost use Rattle.jp_lines.specs.CommandLine.{with_lines, with_number, with_selections, with_tellings};
+ghost use Rattle.jp_lines.specs.CommandLine.{with_values};
 
 use crate::help::{AFTER_HELP, BOTH, COLUMNS, COUNT, EVAL, KEEP, PATHS};
 use clap::builder::ValueParser;
@@ -120,12 +121,35 @@ fn with_line_numbers<'w>(alloc: Global, command: Command<'w>) -> Result<Command<
         value_parser!(u64),
         "Tells at most N refused lines one by one, and how many more there are",
     )?;
-    with_number(
+    with_limits(alloc, command)
+}
+
+/// The command with the options that limit what is done for one document.
+fn with_limits<'w>(alloc: Global, command: Command<'w>) -> Result<Command<'w>, AllocError>
+    ensures shape { IfOk result (λ more. app_of more ≡ with_limits (app_of command.entry)) }
+    ensures local { IfOk result (λ more.
+        (out-Command more).has_globals ≡ (out-Command command.entry).has_globals) }
+{
+    let command = with_number(
         alloc,
         command,
         "limit",
         value_parser!(u64).range(1..),
         "Gives a document up after N steps of its evaluation",
+    )?;
+    let command = with_number(
+        alloc,
+        command,
+        "max-nodes",
+        value_parser!(u64).range(1..),
+        "Refuses a document in which more than N nodes are selected",
+    )?;
+    with_number(
+        alloc,
+        command,
+        "max-bytes",
+        value_parser!(u64).range(1..),
+        "Refuses a document of which more than N bytes are to be written",
     )
 }
 

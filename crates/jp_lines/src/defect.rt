@@ -14,6 +14,10 @@ pub enum Defect {
     /// It is a document, over which the evaluation was given up after so many steps, all that the
     /// limit allows.
     StepsUsedUp(u64),
+    /// It is a document in which more nodes are selected than may come out of one.
+    TooManyNodes,
+    /// It is a document of which more bytes were to be written than may come out of one.
+    TooManyBytes,
 }
 
 /// As `jp` tells it, and of a number that is not whole also the path, as
@@ -29,6 +33,8 @@ impl fmt::Display for Defect {
             Defect::Document(fault) => write!(f, "document refused: {fault}"),
             Defect::TooLarge => f.write_str("document refused: DocumentTooLarge"),
             Defect::StepsUsedUp(_) => f.write_str("document refused: StepsUsedUp"),
+            Defect::TooManyNodes => f.write_str("document refused: TooManyNodes"),
+            Defect::TooManyBytes => f.write_str("document refused: TooManyBytes"),
         }
     }
 }

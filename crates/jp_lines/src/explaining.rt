@@ -1,54 +1,59 @@
 //! What is told behind the refusal of a line.
 
-ghost use Rattle.std.specs.Prelude.{◌≡◌, IfOk, IfSome, string_bytes};
+ghost use Rattle.std.specs.Prelude.{◌≡◌, IfOk, string_bytes};
+ghost use Rattle.jp_document.specs.Document.{IsDocumentFault};
 ghost use Rattle.jp_lines.specs.Outcome.{IsMisreadAs, IsToldBehind, hint_of};
+ghost use Rattle.jp_lines.specs.Private.Answers.{IsDefectOfBytes};
 
 use crate::answer::Asked;
 use crate::defect::Defect;
-use jp_json::{JsonReason, Misreading, find_misreading};
+use jp_document::DocumentFault;
+use jp_json::{JsonReason, Misreading, misreading_of};
 use std::alloc::{AllocError, Global};
 
 /// U+001E, which begins each text of a JSON text sequence (RFC 7464 section 2.2).
 const RECORD_SEPARATOR: u8 = 0x1e;
 
-/// What is told behind the defect of a line that is told: why and where it is no document, where that is
-/// asked for, and else nothing, as where there is no memory for it.
+/// What is told behind the defect of a line that is told, which has that defect: why and where it is no
+/// document, where that is asked for, and else nothing, as where there is no memory for it.
 pub(crate) fn explanation(
-    asked: Asked<'_>,
+    asked: Asked<'_, '_>,
     is_told: bool,
     number: u64,
     line: &[u8],
     defect: &Defect,
 ) -> String
+    requires { IsDefectOfBytes line.now defect.now }
     ensures { IsToldBehind asked.entry.options number line.now defect.now (string_bytes result) }
 {
     match defect {
-        Defect::Document(_) if is_told && asked.options.explaining => {
-            match misread_line(asked.alloc, number, line) {
-                Ok(Some(told)) => told,
-                _ => String::new(asked.alloc),
+        Defect::Document(fault) if is_told && asked.options.explaining => {
+            match misread_line(asked.alloc, number, line, fault) {
+                Ok(told) => told,
+                Err(_) => String::new(asked.alloc),
             }
         }
         _ => String::new(asked.alloc),
     }
 }
 
-/// Why and where the input's line of that number is no document; None where it is one.
-fn misread_line(alloc: Global, number: u64, line: &[u8]) -> Result<Option<String>, AllocError>
-    ensures { IfOk result (λ found. IfSome found
-        (λ text. IsMisreadAs number line.now (string_bytes text))) }
+/// Why and where the input's line of that number is no document, which has that fault.
+fn misread_line(
+    alloc: Global,
+    number: u64,
+    line: &[u8],
+    fault: &DocumentFault,
+) -> Result<String, AllocError>
+    requires { IsDocumentFault line.now fault.now }
+    ensures { IfOk result (λ text. IsMisreadAs number line.now (string_bytes text)) }
 {
-    match find_misreading(alloc, line)? {
-        Some(misreading) => {
-            let hint = hint(misreading.reason, line);
-            let told = Misreading {
-                line: number as usize,
-                ..misreading
-            };
-            Ok(Some(format!(in alloc; "{told}{hint}\n")?))
-        }
-        None => Ok(None),
-    }
+    let misreading = misreading_of(alloc, line, fault)?;
+    let hint = hint(misreading.reason, line);
+    let told = Misreading {
+        line: number as usize,
+        ..misreading
+    };
+    format!(in alloc; "{told}{hint}\n")
 }
 
 /// What is said more of a line that shows another form than one document a line, behind a space.

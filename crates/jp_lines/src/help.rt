@@ -7,8 +7,8 @@ pub(crate) const AFTER_HELP: &str = "\
 Each command takes one QUERY, keep one EXPRESSION, and columns a QUERY for each column, and runs
 it over each line of the FILEs, which is one JSON document; - is the standard input, which is
 read where no FILE is named. Lines of blanks alone hold none. A line that is no document, a FILE
-that can't be read, and with --limit a document that takes more steps than N end the run, unless
---keep-going is given.
+that can't be read, and a document that takes more steps than --limit says, or of which more comes
+out than --max-nodes and --max-bytes say, end the run, unless --keep-going is given.
 A refused query is explained, and with --explain a line that is no document, too.
 
 Example: printf '{\"a\":1}\\n{\"a\":2}\\n' | jp-lines eval '$.a'

@@ -8,8 +8,8 @@
 //! ```
 //!
 //! `Options` say whether lines are numbered, a run goes on after a line that is refused, the output is
-//! flushed after each, and a line that is no document is explained, and how many steps the evaluation
-//! over one document may make. `specs/Task.antt` says what is written of a document, `specs/Run.antt`
+//! flushed after each, and a line that is no document is explained, how many steps the evaluation
+//! over one document may make, and how much may come out of it. `specs/Task.antt` says what is written of a document, `specs/Run.antt`
 //! what `run_lines` says with each answer, by the outcomes of lines in `specs/Outcome.antt`, and
 //! `specs/Lines.antt` what the lines of an input are. `run_program` is the whole program `jp-lines`
 //! over its words and over inputs that an `Inputs` opens by their names, as an `Opener` does in a process;
@@ -30,6 +30,7 @@ mod help;
 mod inputs;
 mod keeping;
 pub mod laws;
+mod limits;
 mod opening;
 mod options;
 mod passing;

@@ -2,7 +2,7 @@
 
 ghost use Rattle.std.specs.Prelude.{◌≡◌, ◌≢◌, [], IfErr, IfOk, OnErr, OnOk, map, string_bytes, true};
 ghost use Rattle.jp_lines.specs.Inputs.{RunsOver, inputs_of, lead_of_input, lead_of_lines, unread_line};
-ghost use Rattle.jp_lines.specs.Private.Answers.{HasNamedLocation};
+ghost use Rattle.jp_lines.specs.Private.Answers.{HasPlan};
 ghost use Rattle.jp_lines.specs.Private.Opening.{HaltsNext, IsAtStart, PassesNext, PassesOne};
 ghost use Rattle.jp_lines.specs.Private.Opening.{StopsLeaving, cut_of};
 ghost use Rattle.jp_lines.specs.Told.{Tells};
@@ -35,14 +35,14 @@ pub(crate) enum Cut {
 /// `passed` is what the run has come to. After an input that can't be opened or read the run goes on
 /// only where it is to, and its inputs are named.
 pub(crate) fn pass_inputs<I: Inputs, W: Output, E: Writer>(
-    asked: Asked<'_>,
+    asked: Asked<'_, '_>,
     named: &[&str],
     passed: &mut Passed,
     inputs: &mut I,
     output: &mut W,
     faults: &mut E,
 ) -> Result<(), Halt>
-    requires location { HasNamedLocation asked.task }
+    requires plan { HasPlan asked.task }
     requires start { IsAtStart passed.old }
     ensures { RunsOver asked.entry.options (map (λ t. t.now) named.now) I.opens I.Input.remaining
         I.Input.has_failed I.Input.read_gives W.contents W.has_failed E.contents E.has_failed
@@ -69,7 +69,7 @@ fn inputs_of<'n>(named: &'n [&'n str]) -> &'n [&'n str]
 
 /// Goes over the next input.
 fn pass_next<I: Inputs, W: Output, E: Writer>(
-    asked: Asked<'_>,
+    asked: Asked<'_, '_>,
     named: &[&str],
     name: &str,
     passed: &mut Passed,
@@ -77,7 +77,7 @@ fn pass_next<I: Inputs, W: Output, E: Writer>(
     output: &mut W,
     faults: &mut E,
 ) -> Result<(), Halt>
-    requires { HasNamedLocation asked.task }
+    requires { HasPlan asked.task }
     ensures passed { OnOk result (PassesNext asked.entry.options I.opens I.Input.remaining
         I.Input.has_failed I.Input.read_gives W.contents W.has_failed E.contents E.has_failed
         (task_of asked.entry.task) name.now inputs.old inputs.new output.old output.new
@@ -112,13 +112,13 @@ fn pass_next<I: Inputs, W: Output, E: Writer>(
 
 /// Opens an input, and goes over its lines.
 fn pass_input<I: Inputs, W: Output, E: Writer>(
-    asked: Asked<'_>,
+    asked: Asked<'_, '_>,
     name: &str,
     inputs: &mut I,
     output: &mut W,
     faults: &mut E,
 ) -> (Tally, Result<(), Cut>)
-    requires { HasNamedLocation asked.task }
+    requires { HasPlan asked.task }
     ensures { PassesOne asked.entry.options I.opens I.Input.remaining
         I.Input.has_failed I.Input.read_gives W.contents W.has_failed E.contents E.has_failed
         (task_of asked.entry.task) name.now inputs.old inputs.new output.old output.new
@@ -147,7 +147,7 @@ fn cut_of(ended: Result<(), Stop>) -> Result<(), Cut>
 
 /// Tells that an input was not read to its end, where the run goes on after it.
 fn leave<E: Writer>(
-    asked: Asked<'_>,
+    asked: Asked<'_, '_>,
     named: &[&str],
     name: &str,
     why: Unread,

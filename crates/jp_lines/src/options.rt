@@ -4,6 +4,7 @@ ghost use Rattle.std.specs.Prelude.{◌≡◌};
 ghost use Rattle.jp_lines.specs.Outcome.{left_after};
 
 use jp_command::Form;
+use jp_limit::OutputLimit;
 
 /// What is written of each document.
 #[derive(Debug, Clone, Copy, PartialEq, Eq)]
@@ -41,6 +42,8 @@ pub struct Options {
     pub reports: Option<u64>,
     /// The most steps that the evaluation over one document may make; None: as many as it takes.
     pub limit: Option<u64>,
+    /// The most that may come out of one document.
+    pub output_limit: OutputLimit,
 }
 
 impl Options {

@@ -2,7 +2,7 @@
 
 ghost use Rattle.std.specs.Prelude.{◌≡◌, ◌≤◌, ◌++◌, [], List, ℕ, IfErr, OnOk, false, length};
 ghost use Rattle.jp_command.specs.Limits.{document_limit};
-ghost use Rattle.jp_lines.specs.Private.Answers.{HasNamedLocation};
+ghost use Rattle.jp_lines.specs.Private.Answers.{HasPlan};
 ghost use Rattle.jp_lines.specs.Outcome.{tally_of};
 ghost use Rattle.jp_lines.specs.Private.Passing.{EndsLine, Keeps, PassesOn, StopsEnding, StopsPassing};
 ghost use Rattle.jp_lines.specs.Private.Passing.{kept_of};
@@ -49,13 +49,13 @@ impl Progress {
 /// Goes over the next bytes of the input. A line that has grown too large is refused before its end
 /// where the run does not go on after it.
 pub(crate) fn pass<W: Output, E: Writer>(
-    asked: Asked<'_>,
+    asked: Asked<'_, '_>,
     progress: &mut Progress,
     bytes: &[u8],
     output: &mut W,
     faults: &mut E,
 ) -> Result<(), Stop>
-    requires named { HasNamedLocation asked.task }
+    requires plan { HasPlan asked.task }
     ensures passes { OnOk result ((line : List ℕ) → Keeps progress.old line
         → PassesOn asked.entry.options asked.entry.lead.now W.contents W.has_failed
         E.contents E.has_failed (task_of asked.entry.task) bytes.now progress.old progress.new line
@@ -95,12 +95,12 @@ fn keep(line: &mut Vec<u8>, bytes: &[u8]) -> Result<(), AllocError>
 
 /// Treats the line that has ended, and begins the next one.
 pub(crate) fn end_line<W: Output, E: Writer>(
-    asked: Asked<'_>,
+    asked: Asked<'_, '_>,
     progress: &mut Progress,
     output: &mut W,
     faults: &mut E,
 ) -> Result<(), Stop>
-    requires named { HasNamedLocation asked.task }
+    requires plan { HasPlan asked.task }
     ensures ended { OnOk result ((line : List ℕ) → Keeps progress.old line
         → EndsLine asked.entry.options asked.entry.lead.now W.contents W.has_failed
         E.contents E.has_failed (task_of asked.entry.task) progress.old progress.new line

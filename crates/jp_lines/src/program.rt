@@ -1,6 +1,6 @@
 //! The whole program over its words.
 
-ghost use Rattle.std.specs.Prelude.{◌≡◌, List, ℕ, IfErr, OnOk, Some, map, string_bytes};
+ghost use Rattle.std.specs.Prelude.{◌≡◌, List, ℕ, IfErr, OnOk, Some, false, map, string_bytes};
 ghost use Rattle.jp_lines.specs.CommandLine.{asked};
 ghost use Rattle.jp_lines.specs.Views.{job_of};
 ghost use Rattle.jp_command.specs.Output.{AppendsSome};
@@ -28,7 +28,7 @@ use std::alloc::Global;
 /// run goes on after a line that is refused, and after an input that can't be read and is named in the words,
 /// and each has its line; with status 2 that is clap's own text. Behind the line of a refused query stands an
 /// explanation, if there is memory for it. The output is flushed at the end of a run, before anything is
-/// told of that, unless a write has failed; where the flush fails, that is told alone. Then come how many
+/// told of that, unless a write that failed ended it; where the flush fails, that is told alone. Then come how many
 /// refused lines were not told, where `--reports` says how many are to be, and with `--summary` what the run
 /// counts. Where what reads the output hung up, nothing is told of that, and status is 5.
 pub fn run_program<I: Inputs, W: Output, E: Writer>(
@@ -39,7 +39,7 @@ pub fn run_program<I: Inputs, W: Output, E: Writer>(
     faults: &mut E,
 ) -> u8
     ensures { RunsProgram I.opens I.Input.remaining I.Input.has_failed I.Input.read_gives
-        W.contents W.has_failed W.write_takes E.contents E.has_failed W.hung_up
+        W.contents W.has_failed W.write_takes W.holds_back E.contents E.has_failed W.hung_up
         (map string_bytes words.items) inputs.old inputs.new output.old output.new
         faults.old faults.new result }
 {
@@ -60,7 +60,7 @@ fn do_job<I: Inputs, W: Output, E: Writer>(
 ) -> u8
     ensures { (words : List (List ℕ)) → asked words ≡ Some (job_of job.now)
         → RunsProgram I.opens I.Input.remaining I.Input.has_failed I.Input.read_gives
-        W.contents W.has_failed W.write_takes E.contents E.has_failed W.hung_up
+        W.contents W.has_failed W.write_takes W.holds_back E.contents E.has_failed W.hung_up
         words inputs.old inputs.new output.old output.new faults.old faults.new result }
 {
     match run_job(alloc, job, inputs, output, faults) {
@@ -81,8 +81,8 @@ fn is_shown(kind: ErrorKind) -> bool
 
 /// Writes the text of clap's error, and answers the status.
 fn show<W: Output, E: Writer>(alloc: Global, error: &Error, output: &mut W, faults: &mut E) -> u8
-    ensures { Shows W.contents W.has_failed W.hung_up E.contents E.has_failed output.old output.new
-        faults.old faults.new result }
+    ensures { Shows W.contents W.has_failed W.hung_up W.holds_back E.contents E.has_failed output.old
+        output.new faults.old faults.new result }
 {
     match write_shown(alloc, error, output) {
         Ok(()) => 0,
@@ -101,6 +101,7 @@ fn show<W: Output, E: Writer>(alloc: Global, error: &Error, output: &mut W, faul
 fn write_shown<W: Output>(alloc: Global, error: &Error, output: &mut W) -> Result<(), Fault>
     ensures written { AppendsSome (W.contents output.old) (W.contents output.new) }
     ensures works { OnOk result (W.has_failed output.new ≡ W.has_failed output.old) }
+    ensures handed_on { OnOk result (W.holds_back output.new ≡ false) }
     ensures stopped { IfErr result (StopsShowing W.has_failed output.old output.new) }
 {
     let text = error.to_string(alloc)?;

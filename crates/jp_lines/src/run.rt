@@ -3,7 +3,7 @@
 ghost use Rattle.std.specs.Prelude.{◌≡◌, []};
 ghost use Rattle.jp_check.specs.declared.profile.Profile.{Profile};
 ghost use Rattle.jp_tree.specs.Views.{query_of};
-ghost use Rattle.jp_lines.specs.Private.Answers.{HasNamedLocation};
+ghost use Rattle.jp_lines.specs.Private.Answers.{HasPlan};
 ghost use Rattle.jp_lines.specs.Private.Asking.{RunsAsked};
 ghost use Rattle.jp_lines.specs.Private.Passing.{BeginsAtStart};
 ghost use Rattle.jp_lines.specs.Request.{IsTaskOf, Request, SelectBy};
@@ -20,7 +20,7 @@ use crate::tally::Tally;
 use crate::task::{Selection, Task};
 use jp_check::{Checked, Profile};
 use jp_command::{Fault, Output, Source, Writer, chunk_buffer, read_within_limit};
-use jp_evaluate::named_location;
+use jp_evaluate::Plan;
 use std::alloc::Global;
 
 /// How often an input is read at most, which is more often than any run can.
@@ -29,11 +29,12 @@ const READS: u64 = u64::MAX;
 /// Runs `query`, read in that profile, over the lines of `input`, each of which is one document
 /// (JSON Lines, NDJSON). A line of blanks alone, or of nothing, holds none and is passed over. For
 /// each document in turn, what is `wanted` is written before the next line is read from what
-/// came; one document is in memory at a time. Where the query names a location below the root, the
-/// value there is found while a line is read, without the rest of the document.
+/// came; one document is in memory at a time, or so much of it as the query asks for: where it names a
+/// location, the value there alone.
 ///
 /// Answers how many documents there are, how many nodes are selected in them, and how many lines are
-/// refused: one that is no document, or whose document needs more steps than `limit` says, is told to
+/// refused: one that is no document, or whose document needs more steps than `limit` says, or of which more
+/// comes out than `output_limit` says, is told to
 /// `faults`, where `keep_going` asks the run to go on and no more than `reports` says are told, and is else
 /// the `Line` that the run stops with. Of a line that is refused nothing is written: where there is a
 /// limit, what is written of a document is made in memory first. What can't be
@@ -87,12 +88,12 @@ fn run_selected<R: Source, W: Output, E: Writer>(
         W.contents W.has_failed E.contents E.has_failed request
         input.old input.new output.old output.new faults.old faults.new result }
 {
-    let location = named_location(alloc, query)?;
+    let plan = Plan::of(alloc, query)?;
     let selection = Selection {
         wanted,
         extent,
         query,
-        location: location.as_deref(),
+        plan: &plan,
     };
     let asked = Asked {
         alloc,
@@ -105,12 +106,12 @@ fn run_selected<R: Source, W: Output, E: Writer>(
 
 /// Runs a task over an input that has no name.
 fn pass_alone<R: Source, W: Output, E: Writer>(
-    asked: Asked<'_>,
+    asked: Asked<'_, '_>,
     input: &mut R,
     output: &mut W,
     faults: &mut E,
 ) -> Result<Tally, Stop>
-    requires named { HasNamedLocation asked.task }
+    requires plan { HasPlan asked.task }
     requires alone { asked.lead.now ≡ [] }
     ensures { (profile : Profile) (request : Request)
         → IsTaskOf profile request (task_of asked.entry.task)
@@ -128,12 +129,12 @@ fn pass_alone<R: Source, W: Output, E: Writer>(
 /// Goes over the lines of an input with a task. Answers what they count, or those before a stop, and how
 /// it ended.
 pub(crate) fn pass_all<R: Source, W: Output, E: Writer>(
-    asked: Asked<'_>,
+    asked: Asked<'_, '_>,
     input: &mut R,
     output: &mut W,
     faults: &mut E,
 ) -> (Tally, Result<(), Stop>)
-    requires named { HasNamedLocation asked.task }
+    requires plan { HasPlan asked.task }
     ensures { GoesOver asked.entry.options asked.entry.lead.now R.remaining R.has_failed R.read_gives
         W.contents W.has_failed E.contents E.has_failed (task_of asked.entry.task)
         input.old input.new output.old output.new faults.old faults.new result.0 result.1 }
@@ -145,13 +146,13 @@ pub(crate) fn pass_all<R: Source, W: Output, E: Writer>(
 
 /// Goes over an input from the start of the first line on; what is counted stands in `progress`.
 fn pass_reads<R: Source, W: Output, E: Writer>(
-    asked: Asked<'_>,
+    asked: Asked<'_, '_>,
     progress: &mut Progress,
     input: &mut R,
     output: &mut W,
     faults: &mut E,
 ) -> Result<(), Stop>
-    requires named { HasNamedLocation asked.task }
+    requires plan { HasPlan asked.task }
     requires start { BeginsAtStart progress.now }
     ensures { GoesOver asked.entry.options asked.entry.lead.now R.remaining R.has_failed R.read_gives
         W.contents W.has_failed E.contents E.has_failed (task_of asked.entry.task)

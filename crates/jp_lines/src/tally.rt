@@ -1,7 +1,7 @@
 //! What a run counts.
 
-ghost use Rattle.std.specs.Prelude.{◌≡◌, [], List, ℕ, IfOk};
-ghost use Rattle.jp_lines.specs.Outcome.{Answered, Refused, plus, tally_in, tally_of};
+ghost use Rattle.std.specs.Prelude.{◌≡◌, [], List, ℕ, IfOk, OnErr};
+ghost use Rattle.jp_lines.specs.Outcome.{Answered, Overflows, Refused, plus, tally_in, tally_of};
 ghost use Rattle.jp_lines.specs.declared.defect.RefusedLine.{RefusedLine};
 
 use std::alloc::AllocError;
@@ -54,7 +54,8 @@ impl Tally {
     /// Of these lines and more. An error says that a number does not fit 64 bits, which counts as want
     /// of memory.
     pub(crate) fn with(self, more: Tally) -> Result<Tally, AllocError>
-        ensures { IfOk result (λ both. both ≡ plus self more) }
+        ensures both { IfOk result (λ both. both ≡ plus self more) }
+        ensures beyond { OnErr result (Overflows (plus self more)) }
     {
         let documents = self.documents.checked_add(more.documents);
         let refused = self.refused.checked_add(more.refused);

@@ -3,7 +3,7 @@
 use crate::options::{Extent, Options, Wanted};
 use jp_cells::Style;
 use jp_check::{Checked, CheckedFilter, Profile};
-use jp_document::Step;
+use jp_evaluate::Plan;
 
 /// What is asked of each document, in the texts of the words.
 #[derive(Drop)]
@@ -30,26 +30,35 @@ pub(crate) struct Job<'w> {
 
 /// What a run does with each document.
 #[derive(Clone, Copy)]
-pub(crate) enum Task<'q> {
-    Select(Selection<'q>),
-    /// Writes the line where the expression is true.
-    Keep(&'q CheckedFilter),
-    Tabulate(Columns<'q>),
+pub(crate) enum Task<'q, 'p> {
+    Select(Selection<'q, 'p>),
+    Keep(Keeping<'q, 'p>),
+    Tabulate(Columns<'q, 'p>),
 }
 
 /// Writes what is wanted of the nodes that the query selects.
 #[derive(Clone, Copy)]
-pub(crate) struct Selection<'q> {
+pub(crate) struct Selection<'q, 'p> {
     pub(crate) wanted: Wanted,
     pub(crate) extent: Extent,
     pub(crate) query: &'q Checked,
-    /// The location that the query names; None where it names none.
-    pub(crate) location: Option<&'q [Step<'q>]>,
+    /// How much of a document is read for the query.
+    pub(crate) plan: &'q Plan<'p>,
+}
+
+/// Writes the line where the expression is true.
+#[derive(Clone, Copy)]
+pub(crate) struct Keeping<'q, 'p> {
+    pub(crate) filter: &'q CheckedFilter,
+    /// How much of a document is read for the expression.
+    pub(crate) plan: &'q Plan<'p>,
 }
 
 /// Writes a row in this style, with a cell for each query.
 #[derive(Clone, Copy)]
-pub(crate) struct Columns<'q> {
+pub(crate) struct Columns<'q, 'p> {
     pub(crate) style: Style,
     pub(crate) queries: &'q [Checked],
+    /// How much of a document is read for the queries.
+    pub(crate) plan: &'q Plan<'p>,
 }

@@ -4,6 +4,7 @@ mod columns;
 mod devices;
 mod explained;
 mod files;
+mod handing_on;
 mod inputs;
 mod keep;
 mod limits;

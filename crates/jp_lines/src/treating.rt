@@ -6,7 +6,7 @@ ghost use Rattle.jp_command.specs.declared.fault.Fault.TheVariants as fault;
 ghost use Rattle.jp_lines.specs.Outcome.{IsRefusal, Refused, left_after, told_of_all};
 ghost use Rattle.jp_lines.specs.Told.{Tells};
 ghost use Rattle.jp_lines.specs.declared.stop.Stop.TheVariants as stop;
-ghost use Rattle.jp_lines.specs.Private.Answers.{HasNamedLocation};
+ghost use Rattle.jp_lines.specs.Private.Answers.{HasPlan, IsDefectOfBytes};
 ghost use Rattle.jp_lines.specs.Private.Passing.{StopsEnding, kept_of};
 ghost use Rattle.jp_lines.specs.Private.Treating.{Treats};
 ghost use Rattle.jp_lines.specs.Views.{task_of};
@@ -23,7 +23,7 @@ use std::alloc::{AllocError, Global};
 /// Writes what is asked of a line's document, or tells that the line is refused; answers what it and the
 /// lines before it count. Of the line it takes what is kept of it.
 pub(crate) fn treat<W: Output, E: Writer>(
-    asked: Asked<'_>,
+    asked: Asked<'_, '_>,
     number: u64,
     before: Tally,
     kept: &[u8],
@@ -31,7 +31,7 @@ pub(crate) fn treat<W: Output, E: Writer>(
     output: &mut W,
     faults: &mut E,
 ) -> Result<Tally, Stop>
-    requires named { HasNamedLocation asked.task }
+    requires plan { HasPlan asked.task }
     ensures treated { IfOk result (λ after. (line : List ℕ) → kept.now ≡ kept_of line
         → Treats asked.entry.options asked.entry.lead.now W.contents W.has_failed
         E.contents E.has_failed (task_of asked.entry.task) number line before after
@@ -65,6 +65,7 @@ pub(crate) fn flush<W: Output>(is_asked_for: bool, output: &mut W) -> Result<(),
     ensures works { OnOk result (W.has_failed output.new ≡ W.has_failed output.old) }
     ensures write { IfErr result (λ stop. stop ≡ fault.Write) }
     ensures fails { OnErr result (W.has_failed output.new ≡ true) }
+    ensures handed_on { OnOk result (is_asked_for ≡ true → W.holds_back output.new ≡ false) }
 {
     if is_asked_for && output.flush().is_err() {
         return Err(Fault::Write);
@@ -72,16 +73,17 @@ pub(crate) fn flush<W: Output>(is_asked_for: bool, output: &mut W) -> Result<(),
     Ok(())
 }
 
-/// Tells that a line, of which this is kept, is refused, where the run goes on after it and fewer than are
+/// Tells that a line, of which this is kept, is refused for that defect, where the run goes on after it and fewer than are
 /// to be told are refused before it.
 fn refuse<E: Writer>(
-    asked: Asked<'_>,
+    asked: Asked<'_, '_>,
     number: u64,
     before: u64,
     kept: &[u8],
     defect: Defect,
     faults: &mut E,
 ) -> Result<(), Stop>
+    requires { IsDefectOfBytes kept.now defect }
     ensures told { OnOk result ((line : RefusedLine)
         × IsRefusal asked.entry.options number kept.now defect line
         × Tells E.contents E.has_failed faults.old faults.new (told_of_all asked.entry.lead.now

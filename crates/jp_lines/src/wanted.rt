@@ -3,48 +3,54 @@
 ghost use Rattle.std.specs.Prelude.{◌≡◌, ◌++◌, ◌<◌, IfErr, IfOk, OnOk, codes, map};
 ghost use Rattle.std.specs.Prelude.{length, string_bytes};
 ghost use Rattle.std.specs.Fmt.{decimal};
+ghost use Rattle.std.specs.List.{flat_map};
 ghost use Rattle.jp_tree.specs.Views.{query_of};
 ghost use Rattle.jp_select.specs.Steps.{Takes};
 ghost use Rattle.jp_evaluate.specs.Nodelist.{nodelist};
-ghost use Rattle.jp_evaluate.specs.Stopping.{StopsSpent};
+ghost use Rattle.jp_command.specs.Selecting.{IsBeyond, StopsOnlySpent};
 ghost use Rattle.jp_command.specs.Found.{found_nodes};
+ghost use Rattle.jp_command.specs.Lines.{line_behind};
 ghost use Rattle.jp_command.specs.Output.{StopsWriting, WritesAll};
 ghost use Rattle.jp_cells.specs.Columns.{columns_text};
 ghost use Rattle.jp_cells.specs.Rows.{separator};
 ghost use Rattle.jp_reading.specs.Characters.{tab};
 ghost use Rattle.jp_lines.specs.Names.{names_before, names_text};
 ghost use Rattle.jp_lines.specs.Outcome.{lead_of};
-ghost use Rattle.jp_lines.specs.Private.Limits.{IsAllowed, WritesOrGivesUp, most_within, stop_of};
+ghost use Rattle.jp_lines.specs.Private.Limits.{IsAllowed, WritesOrGivesUp, WritesWithin};
 ghost use Rattle.jp_lines.specs.Task.{mark_behind_number, nodes_output, nodes_within, selected_in};
 ghost use Rattle.jp_lines.specs.Task.{written_for};
-ghost use Rattle.jp_lines.specs.Views.{columns_task, task_of};
+ghost use Rattle.jp_lines.specs.Views.{columns_task, selection_task, task_of};
 
 use crate::answer::{Asked, Memory, Reply};
 use crate::count::count_selected;
 use crate::defect::Defect;
 use crate::keeping::write_kept;
-use crate::options::{Extent, Wanted};
+use crate::limits::{allowed_by, defect_of_output, fault_of_row, most_within, stop_of};
+use crate::options::{Extent, Options, Wanted};
 use crate::task::{Columns, Selection, Task};
 use itoa::Buffer;
 use jp_cells::{Format, Style, push_columns, push_row};
-use jp_command::{Fault, Spare, Writer, selected_lines, write_all, write_found, write_selected};
+use jp_command::{
+    Fault, Form, SelectionFault, Spare, Writer, push_found, selected_lines, write_all,
+    write_selected,
+};
 use jp_document::Step;
-use jp_evaluate::EvaluationFault;
 use jp_lent::Selectable;
+use jp_limit::OutputLimit;
 use jp_select::Steps;
 use std::alloc::{AllocError, Global};
 
 /// Writes what is asked of the document whose value is the root, in this line of the input, or answers
 /// that the steps did not suffice for it.
 pub(crate) fn write_for<'d: 'q, 'q, V: Selectable + 'd, W: Writer>(
-    asked: Asked<'q>,
+    asked: Asked<'q, '_>,
     number: u64,
     line: &[u8],
     root: V,
     memory: &mut Memory,
     output: &mut W,
 ) -> Result<Reply, Fault>
-    ensures ok { IfOk result (WritesOrGivesUp W.contents W.has_failed asked.entry.options.limit
+    ensures ok { IfOk result (WritesOrGivesUp W.contents W.has_failed asked.entry.options
         (selected_in (task_of asked.entry.task) (V.meaning root))
         (written_for (task_of asked.entry.task)
         (lead_of (mark_behind_number (task_of asked.entry.task)) asked.entry.options.numbered number)
@@ -53,33 +59,65 @@ pub(crate) fn write_for<'d: 'q, 'q, V: Selectable + 'd, W: Writer>(
         (written_for (task_of asked.entry.task)
         (lead_of (mark_behind_number (task_of asked.entry.task)) asked.entry.options.numbered number)
         line.now (V.meaning root))) }
+    ensures within { IfErr result (WritesWithin W.contents W.has_failed asked.entry.options
+        (selected_in (task_of asked.entry.task) (V.meaning root))
+        (written_for (task_of asked.entry.task)
+        (lead_of (mark_behind_number (task_of asked.entry.task)) asked.entry.options.numbered number)
+        line.now (V.meaning root)) output.old output.new) }
 {
     match asked.task {
         Task::Select(selection) => {
-            set_lead(asked.options.numbered, number, '\t', &mut memory.lead)?;
-            let lead = memory.lead.as_str();
-            write_wanted(asked, selection, lead, root, &mut memory.spare, output)
+            write_selection(asked, selection, number, root, memory, output)
         }
-        Task::Keep(filter) => {
+        Task::Keep(keeping) => {
             set_lead(asked.options.numbered, number, '\t', &mut memory.lead)?;
             let lead = memory.lead.as_str();
             let patterns = &mut memory.spare.patterns;
-            write_kept(asked, filter, lead, line, root, patterns, output)
+            write_kept(asked, keeping.filter, lead, line, root, patterns, output)
         }
         Task::Tabulate(columns) => write_columns(asked, columns, number, root, memory, output),
     }
 }
 
-/// Writes the row of a document. Nothing is written before all of the row is made.
-fn write_columns<'d: 'q, 'q, V: Selectable + 'd, W: Writer>(
-    asked: Asked<'q>,
-    columns: Columns<'q>,
+/// Writes what is asked of the nodes that a selection has in the document whose value is the root.
+pub(crate) fn write_selection<'d: 'q, 'q, V: Selectable + 'd, W: Writer>(
+    asked: Asked<'q, '_>,
+    selection: Selection<'q, '_>,
     number: u64,
     root: V,
     memory: &mut Memory,
     output: &mut W,
 ) -> Result<Reply, Fault>
-    ensures ok { IfOk result (WritesOrGivesUp W.contents W.has_failed asked.entry.options.limit
+    ensures ok { IfOk result (WritesOrGivesUp W.contents W.has_failed asked.entry.options
+        (selected_in (selection_task selection.entry) (V.meaning root))
+        (nodes_output selection.entry.wanted (lead_of tab asked.entry.options.numbered number)
+        (nodes_within selection.entry.extent
+        (nodelist (query_of selection.entry.query.now.query) (V.meaning root)))) output.old output.new) }
+    ensures stopped { IfErr result (StopsWriting W.contents W.has_failed output.old output.new
+        (nodes_output selection.entry.wanted (lead_of tab asked.entry.options.numbered number)
+        (nodes_within selection.entry.extent
+        (nodelist (query_of selection.entry.query.now.query) (V.meaning root))))) }
+    ensures within { IfErr result (WritesWithin W.contents W.has_failed asked.entry.options
+        (selected_in (selection_task selection.entry) (V.meaning root))
+        (nodes_output selection.entry.wanted (lead_of tab asked.entry.options.numbered number)
+        (nodes_within selection.entry.extent
+        (nodelist (query_of selection.entry.query.now.query) (V.meaning root)))) output.old output.new) }
+{
+    set_lead(asked.options.numbered, number, '\t', &mut memory.lead)?;
+    let lead = memory.lead.as_str();
+    write_wanted(asked, selection, lead, root, &mut memory.spare, output)
+}
+
+/// Writes the row of a document. Nothing is written before all of the row is made.
+fn write_columns<'d: 'q, 'q, V: Selectable + 'd, W: Writer>(
+    asked: Asked<'q, '_>,
+    columns: Columns<'q, '_>,
+    number: u64,
+    root: V,
+    memory: &mut Memory,
+    output: &mut W,
+) -> Result<Reply, Fault>
+    ensures ok { IfOk result (WritesOrGivesUp W.contents W.has_failed asked.entry.options
         (selected_in (columns_task columns.entry) (V.meaning root))
         (lead_of (separator columns.entry.style.format) asked.entry.options.numbered number
         ++ columns_text columns.entry.style (map (λ c. query_of c.query) columns.entry.queries.now)
@@ -88,10 +126,15 @@ fn write_columns<'d: 'q, 'q, V: Selectable + 'd, W: Writer>(
         (lead_of (separator columns.entry.style.format) asked.entry.options.numbered number
         ++ columns_text columns.entry.style (map (λ c. query_of c.query) columns.entry.queries.now)
         (V.meaning root))) }
+    ensures within { IfErr result (WritesWithin W.contents W.has_failed asked.entry.options
+        (selected_in (columns_task columns.entry) (V.meaning root))
+        (lead_of (separator columns.entry.style.format) asked.entry.options.numbered number
+        ++ columns_text columns.entry.style (map (λ c. query_of c.query) columns.entry.queries.now)
+        (V.meaning root)) output.old output.new) }
 {
     let allowed = allowed_by(asked.options.limit);
     let mut steps = allowed;
-    let Columns { style, queries } = columns;
+    let Columns { style, queries, .. } = columns;
     let line = &mut memory.spare.line;
     set_lead(
         asked.options.numbered,
@@ -100,12 +143,18 @@ fn write_columns<'d: 'q, 'q, V: Selectable + 'd, W: Writer>(
         line,
     )?;
     let cells = &mut memory.cells;
-    match push_columns(asked.alloc, style, root, queries, cells, &mut steps, line) {
-        Ok(selected) => {
-            write_text(line.as_str(), output)?;
-            Ok(Reply::Written(selected))
-        }
-        Err(given_up) => stop_of(given_up, allowed.left() - steps.left()),
+    match push_columns(
+        asked.alloc,
+        style,
+        asked.options.output_limit,
+        root,
+        queries,
+        cells,
+        &mut steps,
+        line,
+    ) {
+        Ok(selected) => write_within(asked.options, selected, line.as_str(), output),
+        Err(fault) => stop_of(fault_of_row(fault), allowed.left() - steps.left()),
     }
 }
 
@@ -161,14 +210,14 @@ fn mark_between(format: Format) -> char
 
 /// Writes what is asked of the nodes that a selection has in a document, behind the text `lead`.
 fn write_wanted<'d: 'q, 'q, V: Selectable + 'd, W: Writer>(
-    asked: Asked<'q>,
-    selection: Selection<'q>,
+    asked: Asked<'q, '_>,
+    selection: Selection<'q, '_>,
     lead: &str,
     root: V,
     spare: &mut Spare,
     output: &mut W,
 ) -> Result<Reply, Fault>
-    ensures ok { IfOk result (WritesOrGivesUp W.contents W.has_failed asked.entry.options.limit
+    ensures ok { IfOk result (WritesOrGivesUp W.contents W.has_failed asked.entry.options
         (length (nodes_within selection.entry.extent
         (nodelist (query_of selection.entry.query.now.query) (V.meaning root))))
         (nodes_output selection.entry.wanted lead.now
@@ -178,9 +227,28 @@ fn write_wanted<'d: 'q, 'q, V: Selectable + 'd, W: Writer>(
         (nodes_output selection.entry.wanted lead.now
         (nodes_within selection.entry.extent
         (nodelist (query_of selection.entry.query.now.query) (V.meaning root))))) }
+    ensures within { IfErr result (WritesWithin W.contents W.has_failed asked.entry.options
+        (length (nodes_within selection.entry.extent
+        (nodelist (query_of selection.entry.query.now.query) (V.meaning root))))
+        (nodes_output selection.entry.wanted lead.now
+        (nodes_within selection.entry.extent
+        (nodelist (query_of selection.entry.query.now.query) (V.meaning root)))) output.old output.new) }
 {
-    match (selection.wanted, selection.extent, asked.options.limit) {
-        (Wanted::Nodes(form), Extent::All, None) => {
+    let Options {
+        limit,
+        output_limit,
+        ..
+    } = asked.options;
+    match (selection.wanted, selection.extent, limit, output_limit) {
+        (
+            Wanted::Nodes(form),
+            Extent::All,
+            None,
+            OutputLimit {
+                nodes: None,
+                bytes: None,
+            },
+        ) => {
             let selected = write_selected(
                 asked.alloc,
                 form,
@@ -192,7 +260,7 @@ fn write_wanted<'d: 'q, 'q, V: Selectable + 'd, W: Writer>(
             )?;
             Ok(Reply::Written(selected))
         }
-        (_, _, limit) => write_whole(
+        _ => write_whole(
             asked,
             selection,
             lead,
@@ -205,10 +273,10 @@ fn write_wanted<'d: 'q, 'q, V: Selectable + 'd, W: Writer>(
 }
 
 /// Writes that with the steps that are allowed, by way of memory: nothing is written before all of it is
-/// made.
+/// made, and is no more than may come out of one document.
 fn write_whole<'d: 'q, 'q, V: Selectable + 'd, W: Writer>(
-    asked: Asked<'q>,
-    selection: Selection<'q>,
+    asked: Asked<'q, '_>,
+    selection: Selection<'q, '_>,
     lead: &str,
     allowed: Steps,
     root: V,
@@ -216,7 +284,7 @@ fn write_whole<'d: 'q, 'q, V: Selectable + 'd, W: Writer>(
     output: &mut W,
 ) -> Result<Reply, Fault>
     requires { IsAllowed asked.options.limit allowed }
-    ensures ok { IfOk result (WritesOrGivesUp W.contents W.has_failed asked.entry.options.limit
+    ensures ok { IfOk result (WritesOrGivesUp W.contents W.has_failed asked.entry.options
         (length (nodes_within selection.entry.extent
         (nodelist (query_of selection.entry.query.now.query) (V.meaning root))))
         (nodes_output selection.entry.wanted lead.now
@@ -226,74 +294,53 @@ fn write_whole<'d: 'q, 'q, V: Selectable + 'd, W: Writer>(
         (nodes_output selection.entry.wanted lead.now
         (nodes_within selection.entry.extent
         (nodelist (query_of selection.entry.query.now.query) (V.meaning root))))) }
+    ensures within { IfErr result (WritesWithin W.contents W.has_failed asked.entry.options
+        (length (nodes_within selection.entry.extent
+        (nodelist (query_of selection.entry.query.now.query) (V.meaning root))))
+        (nodes_output selection.entry.wanted lead.now
+        (nodes_within selection.entry.extent
+        (nodelist (query_of selection.entry.query.now.query) (V.meaning root)))) output.old output.new) }
 {
     let mut steps = allowed;
-    match make_wanted(asked.alloc, selection, lead, root, spare, &mut steps) {
-        Ok(selected) => {
-            write_text(spare.line.as_str(), output)?;
-            Ok(Reply::Written(selected))
-        }
+    match make_wanted(asked, selection, lead, root, spare, &mut steps) {
+        Ok(selected) => write_within(asked.options, selected, spare.line.as_str(), output),
         Err(fault) => stop_of(fault, allowed.left() - steps.left()),
-    }
-}
-
-/// How many nodes the lines are of at most.
-fn most_within(extent: Extent) -> Option<u64>
-    ensures { result ≡ most_within extent }
-{
-    match extent {
-        Extent::All => None,
-        Extent::First => Some(1),
-    }
-}
-
-/// The steps that the evaluation over one document may make.
-pub(crate) fn allowed_by(limit: Option<u64>) -> Steps
-    ensures { IsAllowed limit result }
-{
-    match limit {
-        Some(limit) => Steps::at_most(limit),
-        None => Steps::unlimited(),
-    }
-}
-
-/// What an evaluation that was given up after so many steps means for the line: a defect, or that
-/// memory ran out.
-pub(crate) fn stop_of(fault: EvaluationFault, made: u64) -> Result<Reply, Fault>
-    ensures { result ≡ stop_of fault made }
-{
-    match fault {
-        EvaluationFault::NoMemory => Err(Fault::NoMemory),
-        EvaluationFault::StepsUsedUp => Ok(Reply::Refused(Defect::StepsUsedUp(made))),
     }
 }
 
 /// Makes `spare.line` what is asked of the document whose value is the root, and answers how many nodes
 /// it is of.
 fn make_wanted<'d: 'q, 'q, V: Selectable + 'd>(
-    alloc: Global,
-    selection: Selection<'q>,
+    asked: Asked<'q, '_>,
+    selection: Selection<'q, '_>,
     lead: &str,
     root: V,
     spare: &mut Spare,
     steps: &mut Steps,
-) -> Result<u64, EvaluationFault>
+) -> Result<u64, SelectionFault>
     ensures made { OnOk result (string_bytes spare.new.line ≡ nodes_output selection.entry.wanted
         lead.now (nodes_within selection.entry.extent
         (nodelist (query_of selection.entry.query.now.query) (V.meaning root)))) }
     ensures count { IfOk result (λ count. count ≡ length (nodes_within selection.entry.extent
         (nodelist (query_of selection.entry.query.now.query) (V.meaning root)))) }
+    ensures beyond { IfErr result (IsBeyond asked.entry.options.output_limit
+        (length (nodes_within selection.entry.extent
+        (nodelist (query_of selection.entry.query.now.query) (V.meaning root))))
+        (length (nodes_output selection.entry.wanted lead.now
+        (nodes_within selection.entry.extent
+        (nodelist (query_of selection.entry.query.now.query) (V.meaning root)))))) }
     ensures takes { Takes steps.old steps.new }
-    ensures stopped { StopsSpent result steps.new }
+    ensures stopped { StopsOnlySpent result steps.new }
 {
     let patterns = &mut spare.patterns;
     match selection.wanted {
         Wanted::Nodes(form) => {
             let lines = selected_lines(
-                alloc,
+                asked.alloc,
                 form,
                 lead,
                 most_within(selection.extent),
+                asked.options.output_limit,
                 root,
                 selection.query,
                 patterns,
@@ -304,8 +351,9 @@ fn make_wanted<'d: 'q, 'q, V: Selectable + 'd>(
         }
         Wanted::Count => {
             let count = count_selected(
-                alloc,
+                asked.alloc,
                 selection.extent,
+                asked.options.output_limit.nodes,
                 root,
                 selection.query,
                 patterns,
@@ -318,23 +366,27 @@ fn make_wanted<'d: 'q, 'q, V: Selectable + 'd>(
 }
 
 /// Writes what is asked of a document in which the query selects the value at the location alone, or
-/// nothing where there is none, and answers how many there are.
+/// nothing where there is none.
 pub(crate) fn write_wanted_at<V: Selectable, W: Writer>(
-    asked: Asked<'_>,
+    asked: Asked<'_, '_>,
     wanted: Wanted,
     number: u64,
     location: &[Step<'_>],
     value: Option<V>,
     memory: &mut Memory,
     output: &mut W,
-) -> Result<u64, Fault>
-    ensures count { IfOk result (λ count. count ≡ length (found_nodes V.meaning location.now value)) }
-    ensures ok { OnOk result (WritesAll W.contents W.has_failed output.old output.new
+) -> Result<Reply, Fault>
+    ensures ok { IfOk result (WritesOrGivesUp W.contents W.has_failed asked.entry.options
+        (length (found_nodes V.meaning location.now value))
         (nodes_output wanted (lead_of tab asked.entry.options.numbered number)
-        (found_nodes V.meaning location.now value))) }
+        (found_nodes V.meaning location.now value)) output.old output.new) }
     ensures stopped { IfErr result (StopsWriting W.contents W.has_failed output.old output.new
         (nodes_output wanted (lead_of tab asked.entry.options.numbered number)
         (found_nodes V.meaning location.now value))) }
+    ensures within { IfErr result (WritesWithin W.contents W.has_failed asked.entry.options
+        (length (found_nodes V.meaning location.now value))
+        (nodes_output wanted (lead_of tab asked.entry.options.numbered number)
+        (found_nodes V.meaning location.now value)) output.old output.new) }
 {
     let lead = &mut memory.lead;
     let line = &mut memory.spare.line;
@@ -342,12 +394,29 @@ pub(crate) fn write_wanted_at<V: Selectable, W: Writer>(
     let lead = lead.as_str();
     let selected = u64::from(value.is_some());
     match wanted {
-        Wanted::Nodes(form) => {
-            write_found(asked.alloc, form, lead, location, value, line, output)?;
-        }
-        Wanted::Count => write_count(lead, selected, line, output)?,
+        Wanted::Nodes(form) => push_found_behind(form, lead, location, value, line)?,
+        Wanted::Count => push_count(lead, selected, line)?,
     }
-    Ok(selected)
+    write_within(asked.options, selected, line.as_str(), output)
+}
+
+/// Makes `line` the line of the node that was found at the location, behind `lead`, or nothing where there is
+/// none.
+fn push_found_behind<V: Selectable>(
+    form: Form,
+    lead: &str,
+    location: &[Step<'_>],
+    value: Option<V>,
+    line: &mut String,
+) -> Result<(), AllocError>
+    ensures { OnOk result (string_bytes line.new
+        ≡ flat_map (line_behind lead.now form) (found_nodes V.meaning location.now value)) }
+{
+    line.clear();
+    if value.is_some() {
+        line.push_str(lead)?;
+    }
+    push_found(form, location, value, line)
 }
 
 /// Makes `lead` what each line of output begins with: the number, where it is asked for, and a mark.
@@ -364,20 +433,27 @@ fn set_lead(numbered: bool, number: u64, mark: char, lead: &mut String) -> Resul
     Ok(())
 }
 
-/// Writes a count in a line, behind `lead`.
-fn write_count<W: Writer>(
-    lead: &str,
-    count: u64,
-    text: &mut String,
+/// Writes a text that shows so many nodes, unless that is more than may come out of one document.
+fn write_within<W: Writer>(
+    options: Options,
+    selected: u64,
+    text: &str,
     output: &mut W,
-) -> Result<(), Fault>
-    ensures ok { OnOk result (WritesAll W.contents W.has_failed output.old output.new
-        (lead.now ++ decimal count ++ codes "\n")) }
+) -> Result<Reply, Fault>
+    ensures ok { IfOk result (WritesOrGivesUp W.contents W.has_failed options selected text.now
+        output.old output.new) }
     ensures stopped { IfErr result (StopsWriting W.contents W.has_failed output.old output.new
-        (lead.now ++ decimal count ++ codes "\n")) }
+        text.now) }
+    ensures within { IfErr result (WritesWithin W.contents W.has_failed options selected text.now
+        output.old output.new) }
 {
-    push_count(lead, count, text)?;
-    write_text(text.as_str(), output)
+    match defect_of_output(options.output_limit, selected, text.len()) {
+        Some(defect) => Ok(Reply::Refused(defect)),
+        None => {
+            write_text(text, output)?;
+            Ok(Reply::Written(selected))
+        }
+    }
 }
 
 /// Writes a text.

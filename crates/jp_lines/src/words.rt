@@ -7,8 +7,9 @@ ghost use Rattle.clap.specs.Words.{subcommand_of, subcommand_rows_of};
 ghost use Rattle.clap.specs.declared.error.kind.ErrorKind.TheVariants.{OutOfMemory};
 ghost use Rattle.jp_lines.specs.CommandLine.{asked, asked_by, begins_query, columns_by, extent_asked};
 ghost use Rattle.jp_lines.specs.CommandLine.{inputs_by, jp_lines, names_behind, number_asked};
-ghost use Rattle.jp_lines.specs.CommandLine.{options_asked, query_count, request_by, selection_by};
-ghost use Rattle.jp_lines.specs.CommandLine.{style_asked, wanted_called, words_of};
+ghost use Rattle.jp_lines.specs.CommandLine.{options_asked, output_limit_asked, query_count};
+ghost use Rattle.jp_lines.specs.CommandLine.{request_by, selection_by, style_asked, wanted_called};
+ghost use Rattle.jp_lines.specs.CommandLine.{words_of};
 ghost use Rattle.jp_command.specs.CommandLine.{is_set};
 ghost use Rattle.jp_lines.specs.Private.Words.{IsNoCommand};
 ghost use Rattle.jp_lines.specs.Request.{ColumnsBy, KeepBy};
@@ -20,6 +21,7 @@ use crate::task::{Job, Request};
 use clap::{ArgMatches, Error};
 use jp_cells::{Format, Style};
 use jp_command::{Form, is_set, profile_asked};
+use jp_limit::OutputLimit;
 use std::alloc::{AllocError, Global};
 
 /// What a subcommand's name asks to be written of each document, where texts are to be raw or not.
@@ -56,6 +58,16 @@ fn number_asked(found: &ArgMatches, name: &str) -> Option<u64>
     found.get_one::<u64>(name)
 }
 
+/// The most that may come out of one document, where the matches of a subcommand say it.
+fn output_limit_asked(found: &ArgMatches) -> OutputLimit
+    ensures { result ≡ output_limit_asked (rows_of (found_of found.now)) }
+{
+    OutputLimit {
+        nodes: number_asked(found, "max-nodes"),
+        bytes: number_asked(found, "max-bytes"),
+    }
+}
+
 /// The options that the matches of a subcommand ask for.
 fn options_asked(found: &ArgMatches) -> Options
     ensures { result ≡ options_asked (rows_of (found_of found.now)) }
@@ -69,6 +81,7 @@ fn options_asked(found: &ArgMatches) -> Options
         summary: is_set(found, "summary"),
         reports: number_asked(found, "reports"),
         limit: number_asked(found, "limit"),
+        output_limit: output_limit_asked(found),
     }
 }
 

@@ -1,8 +1,8 @@
 -- Counts of positions and of rounds, up to the greatest that is told apart.
-use Rattle.std.proofs.Common.{◌≡◌, ℕ, zero, suc, ◌+◌, ◌*◌, min, max, List, [], ◌∷◌, Some}
+use Rattle.std.proofs.Common.{◌≡◌, ◌≤◌, ℕ, zero, suc, ◌+◌, ◌*◌, min, max, List, [], ◌∷◌, Some}
 use Rattle.std.proofs.Common.{None, inl, inr, refl, ap, arith}
 use Rattle.std.proofs.lemmas.Bool.{cases_lt}
-use Rattle.std.proofs.Math.Nat.{mul-le-mul_left}
+use Rattle.std.proofs.Math.Nat.{mul-le-mul_left, mul_comm}
 use Rattle.jp_iregexp.specs.Tree.{Tree, branches, pieces, repeat}
 use Rattle.jp_iregexp.specs.Positions.{positions_of}
 use Rattle.jp_match.specs.Private.Plain.{unrolled, counted}
@@ -43,3 +43,10 @@ pub rounds_repeat_on : (a : Tree) (least : ℕ) → rounds_of (unrolled (repeat 
     ≡ max least 1 * rounds_of (unrolled a) + own_rounds (unrolled a)
 unfolding unrolled counted
 rounds_repeat_on a least = rounds_at_least (unrolled a) least
+
+-- where the steps for a character are enough for its positions, those for a text are for all of them
+pub steps-cover : (p n w most : ℕ) → p ≤ 64 * w → min (p * n) most ≤ 64 * min (n * w) most
+steps-cover p n w most enough =
+    let scaled : n * p ≤ n * (64 * w) = mul-le-mul_left n enough in
+    let turned : p * n ≡ n * p = mul_comm p n in
+    omega arith

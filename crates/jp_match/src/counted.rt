@@ -1,6 +1,6 @@
 //! Patterns whose positions are counted once for many texts.
 
-ghost use Rattle.std.specs.Prelude.{◌≡◌, ◌^◌, ℕ, Bool, List, IfSome, IsTrue, Some, min};
+ghost use Rattle.std.specs.Prelude.{◌≡◌, ◌≤◌, ◌*◌, ◌-◌, ◌^◌, ℕ, Bool, List, IfSome, IsTrue, Some, min};
 ghost use Rattle.std.specs.Option.{ForSome};
 ghost use Rattle.std.specs.Str.{chars};
 ghost use Rattle.jp_iregexp.specs.Tree.{tree};
@@ -13,6 +13,7 @@ ghost use Rattle.jp_match.specs.Private.OnlyWords.{HasOnlyWords, characters};
 ghost use Rattle.jp_match.specs.Private.Sweeps.{rounds_of};
 
 use crate::counts::{Counts, counts_of};
+use crate::effort::{steps_of_many, steps_of_scan};
 use crate::first_chars::FirstChars;
 use crate::one_width::width_of;
 use crate::only_words::OnlyWords;
@@ -59,6 +60,7 @@ pub struct CountedPattern {
     first_chars: Option<FirstChars>,
     width: Option<u64>,
     prefix: Option<String>,
+    steps_a_char: u64,
     ghost positions: { counts.positions ≡ min (positions_of (tree pattern)) 4097 },
     ghost rounds: { counts.rounds ≡ min (rounds_of (unrolled (tree pattern))) (2 ^ 31) },
     ghost spelled: { (words : List (List ℕ)) → only_words ≡ Some words → HasOnlyWords (tree pattern)
@@ -67,6 +69,7 @@ pub struct CountedPattern {
         pattern)) },
     ghost headed: { ForSome prefix (λ prefix. AllBegin (characters prefix) (Language (tree
         pattern))) },
+    ghost moved: { counts.positions ≤ 64 * steps_a_char },
     ghost wide: { (each : ℕ) → width ≡ Some each → IsTrue (has_width (tree pattern) each) },
 }
 
@@ -77,6 +80,7 @@ impl CountedPattern {
         ensures { tree result.pattern ≡ tree pattern }
     {
         let counts = counts_of(&pattern);
+        let steps_a_char = steps_of_scan(&pattern, counts.positions);
         let only_words = OnlyWords::of(&pattern);
         let first_chars = match only_words {
             None if counts.positions <= MOST_TABLED => Some(FirstChars::of(&pattern)),
@@ -97,6 +101,7 @@ impl CountedPattern {
             first_chars,
             width,
             prefix,
+            steps_a_char,
         }
     }
 
@@ -105,6 +110,20 @@ impl CountedPattern {
         ensures { tree result.now ≡ tree self.now.pattern }
     {
         &self.pattern
+    }
+
+    /// How many steps it takes at most to match a text of so many bytes: for each character one for each
+    /// 64 positions whose marks are moved, and at least one; of a pattern of more than 4,096 positions,
+    /// as many as its sets of offsets take.
+    #[inline(always)]
+    pub fn steps_over(&self, bytes: usize) -> u64
+        ensures { positions_of (tree self.now.pattern) ≤ 4096
+            → min (positions_of (tree self.now.pattern) * bytes) (2 ^ 64 - 1) ≤ 64 * result }
+    {
+        if self.counts.positions > MOST_POSITIONS {
+            return steps_of_many(&self.pattern, bytes as u64);
+        }
+        (bytes as u64).saturating_mul(self.steps_a_char)
     }
 
     /// The pattern with its counts.

@@ -19,6 +19,7 @@ mod copies;
 mod counted;
 mod counts;
 mod cutting;
+mod effort;
 mod empty_word;
 mod first_chars;
 mod idle;

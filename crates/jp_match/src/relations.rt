@@ -18,7 +18,7 @@ use std::alloc::AllocError;
 
 /// How deep repeats of more positions than a scan takes stand inside one another.
 #[cycle(depth)]
-fn depth(pattern: &Pattern) -> u32 {
+pub(crate) fn depth(pattern: &Pattern) -> u32 {
     match pattern {
         Pattern::Either(parts) | Pattern::Sequence(parts) => greatest_depth(parts),
         Pattern::Repeat { inner, .. } if positions(pattern) > MOST_POSITIONS => {

@@ -1,5 +1,5 @@
 -- Steps are taken one after another.
-use Rattle.std.proofs.Common.{◌≡◌, ◌+◌, ◌≤◌, ℕ, true, refl, sym, ◌∙◌, arith}
+use Rattle.std.proofs.Common.{ℕ, refl, ◌∙◌, arith}
 use Rattle.jp_select.specs.Steps.{Counts, Takes}
 use Rattle.jp_select.specs.declared.steps.Steps.{Steps}
 

@@ -1,11 +1,12 @@
 //! The sides of comparisons (RFC 9535 section 2.3.5.1), and how two of them compare.
 
-ghost use Rattle.std.specs.Prelude.{◌≡◌, ◌↔◌, IfOk, IsTrue, MatchOption, OnErr, Some, chars, false, option_map};
+ghost use Rattle.std.specs.Prelude.{◌≡◌, ◌↔◌, ◌≤◌, ◌+◌, ◌-◌, ◌^◌, IfOk, IsTrue, MatchOption, OnErr, OnOk, Some, chars, false};
+ghost use Rattle.std.specs.Prelude.{length, min, option_map};
 ghost use Rattle.jp_document.specs.Location.{entries, step_of};
 ghost use Rattle.jp_lent.specs.Lending.{bare, seen_value, step_with};
 ghost use Rattle.jp_select.specs.Comparable.{comparable_of};
 ghost use Rattle.jp_select.specs.Comparison.{equals, is_less, precedes};
-ghost use Rattle.jp_select.specs.Steps.{IsSpent, Takes};
+ghost use Rattle.jp_select.specs.Steps.{Counts, IsSpent, Takes, steps_of_two};
 ghost use Rattle.jp_select.specs.Private.Parts.{has_parts, same_key, same_part, same_parts};
 
 use crate::steps::{Steps, Stopped};
@@ -74,6 +75,8 @@ impl<'a, V: Lent + 'a> Comparable<'a, V> {
             ↔ (comparable_of V.meaning self.now ≡ comparable_of V.meaning other.now)) }
         ensures takes { Takes steps.old steps.new }
         ensures stopped { OnErr result (IsSpent steps.new) }
+        ensures counts { OnOk result (Counts (steps_of_two (comparable_of V.meaning self.now)
+            (comparable_of V.meaning other.now)) steps.old steps.new) }
     {
         let (left, right) = (self.seen(), other.seen());
         steps.take_many(steps_to_compare(left, right))?;
@@ -97,6 +100,8 @@ impl<'a, V: Lent + 'a> Comparable<'a, V> {
             (comparable_of V.meaning other.now)) }
         ensures takes { Takes steps.old steps.new }
         ensures stopped { OnErr result (IsSpent steps.new) }
+        ensures counts { OnOk result (Counts (steps_of_two (comparable_of V.meaning self.now)
+            (comparable_of V.meaning other.now)) steps.old steps.new) }
     {
         let (left, right) = (self.seen(), other.seen());
         steps.take_many(steps_to_compare(left, right))?;
@@ -106,7 +111,9 @@ impl<'a, V: Lent + 'a> Comparable<'a, V> {
 
 /// The steps of comparing two sides, but for what is in them: one, and one for each byte of the
 /// shorter of two texts.
-fn steps_to_compare(left: Option<Seen>, right: Option<Seen>) -> u64 {
+fn steps_to_compare(left: Option<Seen>, right: Option<Seen>) -> u64
+    ensures { result ≡ steps_of_two (option_map seen_value left.entry) (option_map seen_value right.entry) }
+{
     match (left, right) {
         (Some(Seen::Text(left)), Some(Seen::Text(right))) => shorter(left, right).saturating_add(1),
         _ => 1,
@@ -114,7 +121,9 @@ fn steps_to_compare(left: Option<Seen>, right: Option<Seen>) -> u64 {
 }
 
 /// How many bytes the shorter of two texts has.
-fn shorter(left: &str, right: &str) -> u64 {
+fn shorter(left: &str, right: &str) -> u64
+    ensures { result ≡ min (length left.now) (length right.now) }
+{
     left.len().min(right.len()) as u64
 }
 

@@ -3,7 +3,7 @@
 //! They are counted down, so that each costs one subtraction; where they are not limited the count
 //! stays at 0 when it gets there.
 
-ghost use Rattle.std.specs.Prelude.{◌≡◌, ◌+◌, ◌-◌, OnErr, OnOk, false, true};
+ghost use Rattle.std.specs.Prelude.{◌≡◌, ◌<◌, ◌+◌, ◌-◌, OnErr, OnOk, false, true};
 ghost use Rattle.jp_select.specs.Steps.{Counts, IsSpent, Takes};
 
 /// How many steps may still be made, where they are limited.
@@ -53,6 +53,7 @@ impl Steps {
         ensures takes { Takes self.old self.new }
         ensures counts { OnOk result (Counts 1 self.old self.new) }
         ensures stopped { OnErr result (IsSpent self.new) }
+        ensures few { OnErr result (self.old.left < 1) }
     {
         match self.left.checked_sub(1) {
             Some(left) => {
@@ -69,6 +70,7 @@ impl Steps {
         ensures takes { Takes self.old self.new }
         ensures counts { OnOk result (Counts count self.old self.new) }
         ensures stopped { OnErr result (IsSpent self.new) }
+        ensures few { OnErr result (self.old.left < count) }
     {
         match self.left.checked_sub(count) {
             Some(left) => {

@@ -8,8 +8,8 @@ mod truth;
 
 use jp_check::{Profile, read_query};
 use jp_document::path_text;
-use jp_evaluate::{evaluate, named_location, nodes};
-use jp_held::Document;
+use jp_evaluate::{Plan, evaluate, nodes};
+use jp_held::{Document, Portion};
 use jp_lent::value_text;
 use jp_match::Marks;
 use std::alloc::Global;
@@ -115,9 +115,10 @@ fn named_locations(rt: HostRuntime) -> Result<(), Fail> {
         let query = read_query(alloc, query, Profile::Standard)
             .ok()
             .ok_or("refused")?;
-        let text = match named_location(alloc, &query)? {
-            Some(location) => Some(path_text(alloc, &location)?),
-            None => None,
+        let plan = Plan::of(alloc, &query)?;
+        let text = match plan.portion() {
+            Portion::Value(location) => Some(path_text(alloc, location)?),
+            Portion::Members(_) | Portion::Whole => None,
         };
         assert_eq!(rt; text.as_ref().map(|text| text.as_str()), path);
     }

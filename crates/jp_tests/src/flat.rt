@@ -4,6 +4,7 @@ mod asked;
 mod documents;
 mod escapes;
 mod locations;
+mod no_json;
 mod scattered_names;
 mod small_objects;
 mod values;

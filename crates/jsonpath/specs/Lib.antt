@@ -15,6 +15,8 @@ pub use Rattle.jp_document.specs.Value
 pub use Rattle.jp_evaluate.specs.Nodelist
 pub use Rattle.jp_evaluate.specs.Rest
 pub use Rattle.jp_held.specs.Held
+pub use Rattle.jp_limit.specs.OutputLimit
 pub use Rattle.jp_query.specs.Refusal
+pub use Rattle.jp_select.specs.Steps
 pub use Rattle.jp_tree.specs.Tree
 pub use Rattle.jp_tree.specs.Views

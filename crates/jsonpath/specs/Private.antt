@@ -1,2 +1,2 @@
--- What the contracts of private functions alone cite: how faults are carried over.
+-- What the contracts of private functions alone cite: how faults are carried over, and which there are.
 pub mod Faults

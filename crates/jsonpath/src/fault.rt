@@ -25,9 +25,16 @@ pub enum FindFault {
     /// Memory ran out.
     #[error("want of memory")]
     NoMemory,
-    /// The steps that the caller allowed are used up. Only calls that are given a limit say so.
+    /// The steps that the caller allowed are used up. Only calls that are given a limit say so, or one of the
+    /// next two.
     #[error("steps used up")]
     StepsUsedUp,
+    /// There are more nodes than the caller allowed.
+    #[error("too many nodes")]
+    TooManyNodes,
+    /// What is written of the nodes has more bytes than the caller allowed.
+    #[error("too many bytes")]
+    TooManyBytes,
 }
 
 impl From<AllocError> for FindFault {

@@ -9,8 +9,10 @@
 //! found[0].value;    // 2
 //! ```
 //!
-//! A query from a stranger may need as long as it likes: `find_within` finds in at most a number of
-//! steps, and else says `StepsUsedUp`.
+//! A query from a stranger may need as long as it likes: `find_within` finds in the `Steps` that it is
+//! given, and says `StepsUsedUp` where they do not suffice. What is left of them tells how many it made. It may
+//! also select more than the caller has room for: an `OutputLimit` says how many nodes there may be, and how many
+//! bytes their paths and values may have.
 //!
 //! **Step by step.** A document that is asked more than once is read once, and so is a query:
 //!
@@ -31,8 +33,9 @@
 //! - `evaluate` gives the nodelist, and `nodes` the same nodes one at a time, for who needs the
 //!   first alone. `find_nodes` reads a query and gives its nodelist. The nodes borrow from the
 //!   document and copy nothing of it.
-//! - `Marks` is the matcher: it answers `match` and `search` in time that a pattern and a text of
-//!   any kind bound. A program needs no other.
+//! - `Marks` is the matcher, for `match` and `search`: over a text of c characters it makes at most
+//!   p times c tests of a character for a pattern of p positions, if these are at most 4,096. A
+//!   program needs no other.
 //! - A node has a location, which is a list of `Step`s, and a value. `path_text` and `value_text`
 //!   write them. `read_path` reads a path again, and `Document::find` finds the value there.
 //! - Numbers, texts, lists and members stand in a `Json`, to be taken apart by `match`.
@@ -60,6 +63,8 @@ pub use jp_document::{
 pub use jp_evaluate::{Nodes, evaluate, nodes};
 pub use jp_held::Document;
 pub use jp_lent::value_text;
+pub use jp_limit::OutputLimit;
 pub use jp_match::{Marks, Matching};
 pub use jp_query::{Refusal, RefusalKind};
+pub use jp_select::Steps;
 pub use size::{TOO_MANY_BYTES, check_size};

@@ -1,7 +1,10 @@
 //! The calls of this crate, and that those of the crates below are at hand.
 
 use crate::Profile::{Extended, Standard};
-use crate::{Document, FindFault, canon, find, find_nodes, find_within, path_text, read_query};
+use crate::{
+    Document, FindFault, OutputLimit, Steps, canon, find, find_nodes, find_within, path_text,
+    read_query,
+};
 use std::alloc::Global;
 use std::test::Fail;
 
@@ -60,13 +63,78 @@ fn says_what_is_wrong(rt: HostRuntime) -> Result<(), Fail> {
 #[test]
 fn finds_within_a_limit(rt: HostRuntime) -> Result<(), Fail> {
     let alloc = rt.alloc();
-    for (query, steps) in [("$", 2), ("$[0]", 6), ("$[*]", 7), ("$..*", 9)] {
-        let found = find_within(alloc, b"[1,2]", query, Standard, steps)?;
+    for (query, needed) in [("$", 1), ("$[0]", 1), ("$[*]", 7), ("$..*", 9)] {
+        let mut steps = Steps::at_most(needed + 5);
+        let found = find_within(
+            alloc,
+            b"[1,2]",
+            query,
+            Standard,
+            &mut steps,
+            OutputLimit::none(),
+        )?;
         assert_eq!(rt; found.len(), find(alloc, b"[1,2]", query, Standard)?.len());
-        let fault = find_within(alloc, b"[1,2]", query, Standard, steps - 1).err();
+        assert_eq!(rt; steps.left(), 5);
+        let mut steps = Steps::at_most(needed - 1);
+        let fault = find_within(
+            alloc,
+            b"[1,2]",
+            query,
+            Standard,
+            &mut steps,
+            OutputLimit::none(),
+        )
+        .err();
         assert!(rt; matches!(fault, Some(FindFault::StepsUsedUp)), "{query}");
+        assert_eq!(rt; steps.left(), 0);
     }
     Ok(())
+}
+
+/// A query, how many nodes it selects in `[1,22]`, and how many bytes their paths and values have: `$[0]` and `1`,
+/// `$[1]` and `22`.
+const OUTPUTS: [(&str, u64, u64); 4] = [
+    ("$", 1, 7),
+    ("$[1]", 1, 6),
+    ("$[*]", 2, 11),
+    ("$[5]", 0, 0),
+];
+
+#[test]
+fn finds_so_much_and_no_more(rt: HostRuntime) -> Result<(), Fail> {
+    let alloc = rt.alloc();
+    for (query, nodes, bytes) in OUTPUTS {
+        let exact = found_within(alloc, query, Some(nodes), Some(bytes))?;
+        assert_eq!(rt; exact, Ok(nodes));
+        if nodes > 0 {
+            let fewer = found_within(alloc, query, Some(nodes - 1), None)?;
+            assert_eq!(rt; fewer, Err(FindFault::TooManyNodes));
+            let less = found_within(alloc, query, None, Some(bytes - 1))?;
+            assert_eq!(rt; less, Err(FindFault::TooManyBytes));
+            let first = found_within(alloc, query, Some(nodes - 1), Some(bytes - 1))?;
+            assert_eq!(rt; first, Err(FindFault::TooManyNodes));
+        }
+    }
+    let neither = found_within(alloc, "$[*]", Some(1), Some(4))?;
+    assert_eq!(rt; neither, Err(FindFault::TooManyBytes));
+    let texts = format!(in alloc; "{}, {}", FindFault::TooManyNodes, FindFault::TooManyBytes)?;
+    assert_eq!(rt; texts.as_str(), "too many nodes, too many bytes");
+    Ok(())
+}
+
+/// How many nodes are found in `[1,22]` with that limit.
+fn found_within(
+    alloc: Global,
+    query: &str,
+    nodes: Option<u64>,
+    bytes: Option<u64>,
+) -> Result<Result<u64, FindFault>, Fail> {
+    let mut steps = Steps::unlimited();
+    let limit = OutputLimit { nodes, bytes };
+    match find_within(alloc, b"[1,22]", query, Standard, &mut steps, limit) {
+        Ok(found) => Ok(Ok(found.len() as u64)),
+        Err(fault) => Ok(Err(fault)),
+    }
 }
 
 #[test]

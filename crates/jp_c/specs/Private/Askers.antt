@@ -10,9 +10,11 @@ use Rattle.jp_document.specs.Location.{Location}
 use Rattle.jp_document.specs.Value.{Value}
 use Rattle.jp_evaluate.specs.Named.{NamesLocation, nodes_at}
 use Rattle.jp_flat.specs.FlatValue.{document_in}
+use Rattle.jp_limit.specs.OutputLimit.{StaysWithin}
+use Rattle.jp_limit.specs.declared.output_limit.OutputLimit.{OutputLimit}
 use Rattle.jp_tree.specs.Tree.{QueryTree}
-use Rattle.jsonpath.specs.declared.fault.FindFault.TheVariants as find
-use Rattle.jp_c.specs.Asking.{AnswersLent, IsAskOutcome, IsAskedOf, answer_of}
+use Rattle.jsonpath.specs.Find.{IsGivenUp}
+use Rattle.jp_c.specs.Asking.{AnswersLent, IsAskOutcome, IsAskedOf, answer_of, nodes_asked}
 use Rattle.jp_c.specs.Handles.{document_kept, query_kept}
 use Rattle.jp_c.specs.Numbers.{form_of}
 use Rattle.jp_c.specs.declared.asking.Given.{Given}
@@ -38,21 +40,24 @@ pub record LendsText (a : Asker) (lent : Lent) : Type 0 where
   pub length : lent.length ≡ length (string_bytes a.memory.text)
 
 -- of a document that was read: the lines of the nodes asked for that the query kept selects in it
-abbrev pub IsValueOutcome : ℕ → ℕ → ℕ → Option Kept → Value → outcome.Outcome → Type 0
-IsValueOutcome form from count query d (Text text) =
+abbrev pub IsValueOutcome : ℕ → ℕ → ℕ → Option Kept → Value → OutputLimit → outcome.Outcome → Type 0
+IsValueOutcome form from count query d most (Text text) =
     (f : Form) × (q : QueryTree) × IsAskedOf form query f q
     × (string_bytes text ≡ answer_of from count f q d)
-IsValueOutcome form from count query d Usage = (form_of form ≡ None) ⊎ (query_kept query ≡ None)
-IsValueOutcome form from count query d (Fault fault) =
+    × StaysWithin most (length (nodes_asked from count q d)) (length (string_bytes text))
+IsValueOutcome form from count query d most Usage =
+    (form_of form ≡ None) ⊎ (query_kept query ≡ None)
+IsValueOutcome form from count query d most (Fault fault) =
     (f : Form) × (q : QueryTree) × IsAskedOf form query f q
-    × ((fault ≡ find.NoMemory) ⊎ (fault ≡ find.StepsUsedUp))
-IsValueOutcome form from count query d (Misread fault place) = ⊥
+    × IsGivenUp most (length (nodes_asked from count q d)) (length (answer_of from count f q d)) fault
+IsValueOutcome form from count query d most (Misread fault place) = ⊥
 
 -- of what is asked
-abbrev pub IsAskedOutcome : ℕ → ℕ → ℕ → Given → Option Kept → outcome.Outcome → Type 0
-IsAskedOutcome form from count (given.Bytes bytes) query o = IsAskOutcome form from count query bytes.now o
-IsAskedOutcome form from count (given.Document d) query o =
-    IsValueOutcome form from count query (document_in d.now) o
+abbrev pub IsAskedOutcome : ℕ → ℕ → ℕ → Given → Option Kept → OutputLimit → outcome.Outcome → Type 0
+IsAskedOutcome form from count (given.Bytes bytes) query most o =
+    IsAskOutcome form from count query bytes.now most o
+IsAskedOutcome form from count (given.Document d) query most o =
+    IsValueOutcome form from count query (document_in d.now) most o
 
 -- what is kept has such an outcome, which is told and lent, and still has its query or its document
 pub record Asks (IsOutcome : Option Kept → outcome.Outcome → ℕ → Type 0) (old new : Option Kept)

@@ -1,6 +1,6 @@
 //! How many nodes the lines are of.
 
-use crate::{Device, Form, Spare, selected_lines, write_selected};
+use crate::{Device, Form, OutputLimit, SelectionFault, Spare, selected_lines, write_selected};
 use jp_check::{Profile, read_query};
 use jp_evaluate::Patterns;
 use jp_held::Document;
@@ -29,12 +29,69 @@ fn lines_are_counted(rt: HostRuntime) -> Result<(), Fail> {
             Form::Values,
             "",
             most,
+            OutputLimit::none(),
             document.value(),
             &query,
             &mut Patterns::new(alloc),
             &mut Steps::unlimited(),
         )?;
         assert_eq!(rt; (lines.text.as_str(), lines.count), (text, count));
+    }
+    Ok(())
+}
+
+/// A query, how many nodes are asked for, how many of these there are, and how many bytes their lines have behind
+/// a text of two: of `[1,[2,2]]` the values `1`, `[2,2]`, `2` and `2`.
+const LIMITED: [(&str, Option<u64>, u64, u64); 4] = [
+    ("$", None, 1, 12),
+    ("$..*", None, 4, 20),
+    ("$..*", Some(2), 2, 12),
+    ("$[1][*]", Some(1), 1, 4),
+];
+
+#[test]
+fn lines_keep_to_a_limit(rt: HostRuntime) -> Result<(), Fail> {
+    let alloc = rt.alloc();
+    let document = Document::read(alloc, b"[1,[2,2]]")?;
+    for (query, most, nodes, bytes) in LIMITED {
+        let query = read_query(alloc, query, Profile::Standard)
+            .ok()
+            .ok_or("refused")?;
+        let rows = [
+            (nodes, bytes, None),
+            (nodes - 1, bytes, Some(SelectionFault::TooManyNodes)),
+            (nodes, bytes - 1, Some(SelectionFault::TooManyBytes)),
+            (nodes - 1, bytes - 1, Some(SelectionFault::TooManyNodes)),
+            (
+                nodes - 1,
+                3,
+                Some(if nodes == 1 {
+                    SelectionFault::TooManyNodes
+                } else {
+                    SelectionFault::TooManyBytes
+                }),
+            ),
+        ];
+        for (most_nodes, most_bytes, fault) in rows {
+            let limit = OutputLimit {
+                nodes: Some(most_nodes),
+                bytes: Some(most_bytes),
+            };
+            let mut patterns = Patterns::new(alloc);
+            let mut steps = Steps::unlimited();
+            let lines = selected_lines(
+                alloc,
+                Form::Values,
+                "> ",
+                most,
+                limit,
+                document.value(),
+                &query,
+                &mut patterns,
+                &mut steps,
+            );
+            assert_eq!(rt; lines.err(), fault);
+        }
     }
     Ok(())
 }

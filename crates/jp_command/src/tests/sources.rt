@@ -1,12 +1,15 @@
 //! A source that says no more than it must, and a source and a writer that tell each of their calls.
 
-ghost use Rattle.std.specs.Prelude.{◌≡◌, ◌+◌, ◌++◌, MatchOption, None, Some, false, true};
+ghost use Rattle.std.specs.Prelude.{◌≡◌, ◌+◌, ◌++◌, MatchOption, None, Some, false, length, true};
 
+use super::texts::nested;
+use crate::input::read_all;
 use crate::{Device, Failed, Fault, Form, Source, Writer, run_eval};
 use jp_check::Profile::Standard;
 use jp_document::DocumentFault;
 use std::alloc::Global;
 use std::io::Read;
+use std::test::Fail;
 
 /// An input of no bytes.
 #[derive(Drop)]
@@ -16,6 +19,10 @@ impl Source for Nothing {
     ghost remaining = { λ _. None };
 
     ghost has_failed = { λ _. false };
+
+    fn size_told(&self) -> usize {
+        0
+    }
 
     fn read(&mut self, _buffer: &mut [u8]) -> Result<usize, Failed> {
         Ok(0)
@@ -42,6 +49,12 @@ impl Source for CountedSource<'_> {
     ghost read_gives = { λ before given after. MatchOption given (after.failed ≡ true)
         (λ bytes. (after.calls ≡ before.calls + 1)
         × (before.bytes.now ≡ bytes ++ after.bytes.now)) };
+
+    ghost size_told = { λ source. length source.bytes.now };
+
+    fn size_told(&self) -> usize {
+        self.bytes.len()
+    }
 
     fn read(&mut self, buffer: &mut [u8]) -> Result<usize, Failed> {
         let Some(calls) = self.calls.checked_add(1) else {
@@ -140,4 +153,27 @@ fn sources_and_writers_tell_what_they_like_of_their_calls(rt: HostRuntime) {
     );
     assert_eq!(rt; (run, input.calls, output.calls), (Ok(()), 2, 2));
     assert_eq!(rt; output.bytes.as_slice(), b"1\n2\n".as_slice());
+}
+
+#[test]
+fn room_for_an_input_that_tells_its_size_is_taken_once(rt: HostRuntime) -> Result<(), Fail> {
+    let document = nested(rt.alloc(), ("", "[", 100_000, "1"), ("]", ""))?;
+    let all = document.as_bytes();
+    // Room for one read more finds the end. More than a document may have is never read.
+    let rows = [
+        (200_001, 200_001 + 65_536),
+        (usize::MAX, 16_777_216 + 65_536),
+    ];
+    for (told, room) in rows {
+        let mut input = Device::new(all).with_size(told);
+        assert_eq!(rt; input.size_told(), told);
+        let bytes = read_all(rt.alloc(), &mut input);
+        assert!(rt; bytes.is_ok_and(|bytes| bytes.as_slice() == all && bytes.capacity() == room));
+    }
+    for told in [0, 1, 199_999] {
+        let mut input = Device::new(all).with_size(told);
+        let bytes = read_all(rt.alloc(), &mut input);
+        assert!(rt; bytes.is_ok_and(|bytes| bytes.as_slice() == all));
+    }
+    Ok(())
 }

@@ -1,4 +1,4 @@
-use Rattle.std.proofs.Common.{◌≡◌, ◌∷◌, [], IfOk, false, ap, ap₂, arith, length, option_map, refl, rules, subst, sym, ◌∙◌}
+use Rattle.std.proofs.Common.{◌≡◌, ◌+◌, ◌≤◌, suc, ◌∷◌, [], IfOk, false, ap, ap₂, arith, length, option_map, refl, rules, subst, sym, ◌∙◌}
 use Rattle.std.specs.List.{flat_map}
 use Rattle.jp_document.specs.Location.{entries}
 use Rattle.jp_document.specs.Node.{root_of}
@@ -8,12 +8,18 @@ use Rattle.jp_tree.specs.Views.{argument_of, call_of, expr_of, query_of}
 use Rattle.jp_select.specs.Comparable.{comparable_of}
 use Rattle.jp_document.specs.Value as value
 use Rattle.jp_evaluate.specs.Functions.{logical_answer, meaning, only_value}
-use Rattle.jp_evaluate.specs.Nodelist.{holds, nodelist_at}
+use Rattle.jp_evaluate.specs.Nodelist.{has_node, holds, nodelist_at}
 use Rattle.jp_evaluate.specs.Private.Calls.{call_function, counted}
 use Rattle.jp_evaluate.specs.Private.Selecting.{nodes_query}
-use Rattle.jp_evaluate.specs.Private.Walk.{choice_reaches, pending, reached_node, reaches, segments_left}
+use Rattle.jp_evaluate.specs.Private.Walk.{choice_reaches, pending, reached_node, reaches, segments_left, walk_reaches}
 use Rattle.jp_evaluate.proofs.Parts.Counted.{no_nodes-value, test-logical, test-nodes}
 use Rattle.jp_evaluate.proofs.Parts.Counted.{value_of_nodes-answer}
+use Rattle.jp_evaluate.specs.Private.Due.{choice_cost, walk_cost}
+use Rattle.jp_evaluate.specs.Private.Walk.{choices_from, frame_choices, offered, turns}
+use Rattle.jp_evaluate.proofs.Walks.Costs.{ended-cost, entered-cost, failed-cost, passed-cost, shut-cost}
+use Rattle.jp_evaluate.proofs.Walks.Choices.{drop_none}
+use Rattle.jp_evaluate.proofs.Walks.Paying.{counts-paid, pays-counts, pays-none-more, pays-offer, pays-then}
+use Rattle.jp_evaluate.proofs.Walks.Begun.{begun_nodelist, first-told}
 use Rattle.jp_evaluate.proofs.Walks.Kept.{keeps_then}
 use Rattle.jp_evaluate.proofs.Walks.Selects.{begun_to_come}
 use Rattle.jp_evaluate.proofs.Walks.Advances.{ends_at, ends_in_leaf, goes_on, goes_on_less, offer_less, passed_over}
@@ -159,6 +165,20 @@ filter::Asking::only_value-returns-clause-gives g t c =
     let second = rw c.in-None.is at c.in_ok-next.ensures.gives in
     sym (ap only_value (sym begun ∙ first ∙ ap (λ ns. reached_node m c.next.new.self.walk c.in-Some.reached ∷ ns) second.0))
 
+pub filter::Asking::selects_some-returns-clause-gives : goal.filter::Asking::selects_some-returns-clause-gives
+filter::Asking::selects_some-returns-clause-gives g t c =
+    let m = g.V.Lent.meaning in
+    let d = m c.args.self.now.evaluation.now.root in
+    let all = c.deref-2.result.now in
+    let new = c.from-walk.ensures in
+    let begun =
+    begun_nodelist m c.args.query.now all d (root_of (m c.args.self.now.current)) c.from-walk.result c.start.result
+    (sym c.deref-2.ensures.value) c.start.ensures new.first new.frames in
+    c.is_some.ensures
+    ∙ first-told c.in_ok-first.first (walk_reaches m all d c.from-walk.result) (walk_reaches m all d c.advance.new.self)
+    (reached_node m c.advance.new.self) c.in_ok-first.ensures.gives
+    ∙ ap has_node begun
+
 -- ---- the walk
 
 pub walk::Walk::advance-loop-self-preserved : goal.walk::Walk::advance-loop-self-preserved
@@ -169,8 +189,12 @@ walk::Walk::advance-loop-self-preserved g t c =
     let same =
     passed_over g.V.Lent.meaning all d c.loop-self.self c.next_offer.new.self o (rw c.in-Some.is at c.in_ok-offer.ensures.gives)
     (sym c.in_ok-passes.ensures.gives ∙ c.if-branch.false) ∙ c.loop-self.invariant.same in
+    let one = failed-cost d (offered g.V.Lent.meaning all o) (sym c.in_ok-passes.ensures.gives ∙ c.if-branch.false) in
     record {
       same = same;
+      costs = pays-offer c.loop-self.invariant.taken c.loop-self.invariant.costs c.take.ensures.takes
+          c.in_ok-take.ensures.counts c.next_offer.ensures.takes (rw c.in-Some.is at c.in_ok-offer.ensures.pays d)
+          c.passes.ensures.takes (omega arith);
       keeps = keeps_then c.args.self.now c.loop-self.self c.next_offer.new.self c.loop-self.invariant.keeps
           c.in_ok-offer.ensures.keeps;
       taken = takes_then c.loop-self.invariant.taken (takes_then c.take.ensures.takes (takes_then c.next_offer.ensures.takes c.passes.ensures.takes));
@@ -215,8 +239,20 @@ walk::Walk::advance-loop-self-preserved-in-Continue-branch-6 g t c =
     c.in_ok-offer.ensures.begun (sym c.in_ok-passes.ensures.gives ∙ c.if-branch.true)
     c.if-offer-segments.false c.enter.ensures.first c.in_ok-enter.ensures.frames
     ∙ c.loop-self.invariant.same in
+    let passed = passed-cost d (offered g.V.Lent.meaning all o) (sym c.in_ok-passes.ensures.gives ∙ c.if-branch.true) in
+    let inside = entered-cost g.V.Lent.meaning all d c.next_offer.new.self c.enter.new.self o.reached
+    c.in_ok-offer.ensures.begun c.if-offer-segments.false c.enter.ensures.first c.in_ok-enter.ensures.frames in
+    let taken = takes_then c.loop-self.invariant.taken
+    (takes_then c.take.ensures.takes (takes_then c.next_offer.ensures.takes c.passes.ensures.takes)) in
+    let left = c.turn_count.result + walk_cost g.V.Lent.meaning all d c.enter.new.self in
+    let enough : choice_cost d (offered g.V.Lent.meaning all o) + walk_cost g.V.Lent.meaning all d c.next_offer.new.self
+    ≤ suc left = omega (arith, c.turn_count.ensures) in
     record {
       same = same;
+      costs = pays-then taken (pays-offer c.loop-self.invariant.taken c.loop-self.invariant.costs c.take.ensures.takes
+          c.in_ok-take.ensures.counts c.next_offer.ensures.takes (rw c.in-Some.is at c.in_ok-offer.ensures.pays d)
+          c.passes.ensures.takes enough)
+          (pays-counts (omega arith) c.in_ok-take_many.ensures.counts);
       keeps = keeps_then c.args.self.now c.next_offer.new.self c.enter.new.self
           (keeps_then c.args.self.now c.loop-self.self c.next_offer.new.self c.loop-self.invariant.keeps
           c.in_ok-offer.ensures.keeps) c.in_ok-enter.ensures.keeps;
@@ -236,8 +272,13 @@ walk::Walk::advance-loop-self-preserved-else-not-is_leaf g t c =
     ends_in_leaf g.V.Lent.meaning all d c.loop-self.self c.next_offer.new.self o (rw c.in-Some.is at c.in_ok-offer.ensures.gives)
     (sym c.in_ok-passes.ensures.gives ∙ c.if-branch.true) c.if-offer-segments.false leaf
     ∙ c.loop-self.invariant.same in
+    let passed = passed-cost d (offered g.V.Lent.meaning all o) (sym c.in_ok-passes.ensures.gives ∙ c.if-branch.true) in
+    let one = shut-cost all o.reached.done d (g.V.Lent.meaning o.reached.value) c.if-offer-segments.false leaf in
     record {
       same = same;
+      costs = pays-offer c.loop-self.invariant.taken c.loop-self.invariant.costs c.take.ensures.takes
+          c.in_ok-take.ensures.counts c.next_offer.ensures.takes (rw c.in-Some.is at c.in_ok-offer.ensures.pays d)
+          c.passes.ensures.takes (omega arith);
       keeps = keeps_then c.args.self.now c.loop-self.self c.next_offer.new.self c.loop-self.invariant.keeps
           c.in_ok-offer.ensures.keeps;
       taken = takes_then c.loop-self.invariant.taken (takes_then c.take.ensures.takes (takes_then c.next_offer.ensures.takes c.passes.ensures.takes));
@@ -266,16 +307,42 @@ walk::Walk::advance-returns-then-offer-segments-clause-keeps g t c =
     keeps_then c.args.self.now c.loop-self.self c.next_offer.new.self c.loop-self.invariant.keeps
     c.in_ok-offer.ensures.keeps
 
+pub walk::Walk::advance-returns-then-offer-segments-clause-pays :
+    goal.walk::Walk::advance-returns-then-offer-segments-clause-pays
+walk::Walk::advance-returns-then-offer-segments-clause-pays g t c =
+    let all = c.args.segments.now in
+    let d = g.V.Lent.meaning c.args.evaluation.now.root in
+    let o = c.in-Some.offer in
+    let passed = passed-cost d (offered g.V.Lent.meaning all o) (sym c.in_ok-passes.ensures.gives ∙ c.if-branch.true) in
+    let one = ended-cost all o.reached.done d (g.V.Lent.meaning o.reached.value) c.if-offer-segments.true in
+    pays-offer c.loop-self.invariant.taken c.loop-self.invariant.costs c.take.ensures.takes
+    c.in_ok-take.ensures.counts c.next_offer.ensures.takes (rw c.in-Some.is at c.in_ok-offer.ensures.pays d)
+    c.passes.ensures.takes (omega arith)
+
+pub walk::Walk::advance-returns-in_default-clause-pays :
+    goal.walk::Walk::advance-returns-in_default-clause-pays
+walk::Walk::advance-returns-in_default-clause-pays g t c =
+    let d = g.V.Lent.meaning c.args.evaluation.now.root in
+    pays-then c.loop-self.invariant.taken c.loop-self.invariant.costs
+    (pays-then c.take.ensures.takes (pays-none-more c.take.ensures.takes)
+    (rw c.in_default.is at c.in_ok-offer.ensures.pays d))
+
 -- ---- tallies
 
 pub tally::spread-loop-offer-init : goal.tally::spread-loop-offer-init
 tally::spread-loop-offer-init g t c =
     let m = g.V.Lent.meaning in
-    let frame = c.at-frame.ensures in (
+    let frame = c.at-frame.ensures in
+    let all = c.args.segments.now in
+    let v = m c.args.value in
+    let begun = ap (λ f. length (frame_choices m all f)) frame
+    ∙ ap (λ ts. length (choices_from v ts 0)) (drop_none (turns (segments_left all c.args.way.done))) in
+    let into = c.turn_count.ensures in (
       spread-begun m c.args.segments.now (m c.args.evaluation.now.root) c.args.value c.args.way
           c.args.children.now c.at-frame.result (ap (λ f. f.reached.value) frame)
           (ap (λ f. f.reached.done) frame) (ap (λ f. f.turn) frame) (ap (λ f. f.next) frame),
       c.take_many.ensures.takes,
+      pays-counts (omega arith) c.in_ok-take_many.ensures.counts,
     )
 
 pub tally::spread-loop-offer-preserved : goal.tally::spread-loop-offer-preserved
@@ -287,6 +354,10 @@ tally::spread-loop-offer-preserved g t c =
           (sym c.in_ok-passes.ensures.gives ∙ c.if-branch.false),
       takes_then c.loop-offer.invariant.1
           (takes_then c.frame_offer.ensures.takes (takes_then c.take.ensures.takes c.passes.ensures.takes)),
+      pays-then c.loop-offer.invariant.1 c.loop-offer.invariant.2
+          (pays-then c.frame_offer.ensures.takes (rw c.in-Some.is at c.in_ok-offer.ensures.pays)
+          (pays-then c.take.ensures.takes (pays-counts (omega arith) c.in_ok-take.ensures.counts)
+          (pays-none-more c.passes.ensures.takes))),
     )
 
 pub tally::spread-loop-offer-preserved-in-Continue-branch-6 :
@@ -300,8 +371,18 @@ tally::spread-loop-offer-preserved-in-Continue-branch-6 g t c =
           (sym c.in_ok-passes.ensures.gives ∙ c.if-branch.true) c.in_ok-add.ensures.inside c.in_ok-add.ensures.sums
           c.in_ok-add.ensures.fewer,
       takes_then c.loop-offer.invariant.1
-          (takes_then c.frame_offer.ensures.takes (takes_then c.take.ensures.takes c.passes.ensures.takes)),
+          (takes_then c.frame_offer.ensures.takes (takes_then c.take.ensures.takes
+          (takes_then c.passes.ensures.takes c.add.ensures.takes))),
+      pays-then c.loop-offer.invariant.1 c.loop-offer.invariant.2
+          (pays-then c.frame_offer.ensures.takes (rw c.in-Some.is at c.in_ok-offer.ensures.pays)
+          (pays-then c.take.ensures.takes (pays-counts (omega arith) c.in_ok-take.ensures.counts)
+          (pays-none-more (takes_then c.passes.ensures.takes c.add.ensures.takes)))),
     )
+
+pub tally::spread-returns-clause-counts : goal.tally::spread-returns-clause-counts
+tally::spread-returns-clause-counts g t c =
+    counts-paid (pays-then c.loop-offer.invariant.1 c.loop-offer.invariant.2
+    (rw c.in_default.is at c.in_ok-offer.ensures.pays))
 
 pub tally::spread-returns-clause-sums : goal.tally::spread-returns-clause-sums
 tally::spread-returns-clause-sums g t c = λ f.

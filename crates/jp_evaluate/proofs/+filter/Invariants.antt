@@ -10,12 +10,13 @@ use Rattle.jp_tree.specs.Tree.{segments}
 use Rattle.jp_tree.specs.Views.{operand_of, query_of, segment_of}
 use Rattle.jp_select.specs.Steps.{Takes}
 use Rattle.jp_evaluate.specs.Nodelist.{all_hold, any_holds, nodelist_at}
+use Rattle.jp_evaluate.specs.Private.Due.{Pays, walk_cost}
 use Rattle.jp_evaluate.specs.Private.Asked.{asked}
 use Rattle.jp_evaluate.specs.Private.Sizes.{argument_size, call_size, expr_size, exprs_size}
 use Rattle.jp_evaluate.specs.Private.Sizes.{operand_size, query_size, segments_size}
 use Rattle.jp_evaluate.specs.Private.Calls.{counted}
 use Rattle.jp_evaluate.specs.Private.Selecting.{to_come}
-use Rattle.jp_evaluate.specs.Private.Tally.{places_sum, way_weight}
+use Rattle.jp_evaluate.specs.Private.Tally.{places_sum, way_cost, way_weight}
 use Rattle.jp_evaluate.specs.Private.Walk.{Keeps, frame_choices, reaches, segments_left, walk_reaches}
 use Rattle.jp_evaluate.specs.Private.Walk.{walk_weight}
 use Rattle.jp_evaluate.specs.declared.filter.Asking.{Asking}
@@ -80,6 +81,9 @@ invariant-walk::Walk::advance-loop-self g l = record {
   same : walk_reaches g.V.Lent.meaning l.segments (g.V.Lent.meaning l.evaluation.root) l.self
       ≡ walk_reaches g.V.Lent.meaning l.segments (g.V.Lent.meaning l.evaluation.root) l.fn.self;
   keeps : Keeps l.fn.self l.self;
+  costs : Pays (walk_cost g.V.Lent.meaning l.segments (g.V.Lent.meaning l.evaluation.root) l.fn.self)
+      (walk_cost g.V.Lent.meaning l.segments (g.V.Lent.meaning l.evaluation.root) l.self)
+      l.fn.work.steps l.work.steps;
   taken : Takes l.fn.work.steps l.work.steps;
 }
 
@@ -171,6 +175,8 @@ invariant-tally::spread-loop-offer g l =
     let m = g.V.Lent.meaning in
     Spreads m l.segments (m l.evaluation.root) l.fn.value l.way l.fn.children l.frame l.children
     × Takes l.fn.work.steps l.work.steps
+    × Pays (way_cost l.segments (m l.fn.value) l.way.done) (length (frame_choices m l.segments l.frame))
+    l.fn.work.steps l.work.steps
 
 abbrev pub decreases-tally::spread-loop-offer : goal.decreases-tally::spread-loop-offer
 decreases-tally::spread-loop-offer g l = length (frame_choices g.V.Lent.meaning l.segments l.frame)

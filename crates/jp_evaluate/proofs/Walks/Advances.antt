@@ -9,6 +9,9 @@ use Rattle.std.proofs.lemmas.Grind.{flat_map-append}
 use Rattle.std.proofs.lemmas.List.Sums.{sum_by-append, sum_by-cons}
 use Rattle.jp_document.specs.Location.{Location, entries}
 use Rattle.jp_document.specs.Node.{Node, node_at, root_of}
+use Rattle.jp_document.specs.declared.location.Step as code
+use Rattle.jp_lent.specs.Lending.{step_with}
+use Rattle.jp_select.specs.Selectors.{candidates}
 use Rattle.jp_document.specs.Value.{Value}
 use Rattle.jp_tree.specs.Tree.{ExprTree, SegmentTrees, SelectorTree, segment_then, segments, wildcard}
 use Rattle.jp_tree.specs.Views.{segment_of, selector_of}
@@ -21,7 +24,7 @@ use Rattle.jp_evaluate.specs.Private.Walk.{Choice, LeadsNowhereAt, Skips, choice
 use Rattle.jp_evaluate.specs.Private.Walk.{choice_weight, choices_from, entered, frames_pending}
 use Rattle.jp_evaluate.specs.Private.Walk.{offered, passes, pending, reached_at, reached_node}
 use Rattle.jp_evaluate.specs.Private.Walk.{reaches}
-use Rattle.jp_evaluate.specs.Private.Walk.{segments_left, start_choice, steps_of, turns}
+use Rattle.jp_evaluate.specs.Private.Walk.{segments_left, start_choice, steps_of, test_of, turn_selector, turns}
 use Rattle.jp_evaluate.specs.Private.Walk.{walk_frames, walk_reaches, walk_weight}
 use Rattle.jp_evaluate.specs.declared.walk.Frame.{Frame}
 use Rattle.jp_evaluate.specs.declared.walk.Offer.{Offer}
@@ -29,7 +32,7 @@ use Rattle.jp_evaluate.specs.declared.walk.Turn.{Turn}
 use Rattle.jp_evaluate.specs.declared.walk.Reached.{Reached}
 use Rattle.jp_evaluate.specs.declared.walk.Walk.{Walk}
 use Rattle.jp_evaluate.proofs.Nodelists.Anywhere.{holds-anywhere}
-use Rattle.jp_evaluate.proofs.Walks.Choices.{drop_none, leaves-skip, pending-push, turn-skips}
+use Rattle.jp_evaluate.proofs.Walks.Choices.{choice_next, drop_none, leaves-skip, pending-push, turn-skips}
 use Rattle.jp_evaluate.proofs.Walks.Leaves.{no_choices, no_entries}
 use Rattle.jp_evaluate.proofs.Walks.Reaching.{choice-weighs, enters, enters_less}
 use Rattle.jp_evaluate.proofs.Walks.Skipping.{skips-flat, skips-less, skips-none, skips-same}
@@ -142,6 +145,28 @@ frame-skips {V = X} means all f g turn reached same at inside others leaves = go
         let stays : g.next ≡ f.next = subst (λ o. OnSome o (g.next ≡ f.next)) is others in
         skips-same LeadsNowhere (on f.next) (on f.next) (frame_choices means all g) (skips-none LeadsNowhere (on f.next))
         (ap on (sym stays) ∙ after)
+
+-- what a frame still has to choose begins with the next candidate of its turn
+pub frame-chooses : {V : Type 0} (means : V → Value) (all : List Segment) (f : Frame V) (turn : Turn) (k : code.Step × V)
+    (o : Offer V) → o.reached ≡ record { done = turn.done; step = Some k.0; value = k.1 }
+    → slice_get (turns (segments_left all f.reached.done)) f.turn ≡ Some (turn_of all turn)
+    → slice_get (candidates (turn_selector turn) (means f.reached.value)) f.next ≡ Some (step_with means k)
+    → (offered means all o).test ≡ test_of (turn_selector turn)
+    → frame_choices means all f
+    ≡ offered means all o ∷ frame_choices means all (record { reached = f.reached; turn = f.turn; next = f.next + 1 })
+frame-chooses {V = X} means all f turn k o is there entry test =
+    let t = turn_of all turn in
+    let v = means f.reached.value in
+    let ts = turns (segments_left all f.reached.done) in
+    let rest = choices_from v (drop f.turn ts) (f.next + 1) in
+    let made : Option ExprTree → Reached X → Choice = λ x p. record {
+      test = x;
+      left = segments_left all p.done;
+      step = steps_of p.step;
+      value = means p.value;
+    } in
+    choice_next v ts f.turn f.next t (step_with means k) there entry
+    ∙ ap₂ (λ x p. made x p ∷ rest) (sym test) (sym is)
 
 -- ---- a choice that does not pass
 

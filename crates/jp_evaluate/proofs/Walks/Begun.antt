@@ -1,5 +1,6 @@
 -- Walks that begin.
-use Rattle.std.proofs.Common.{◌≡◌, List, [], ◌∷◌, ◌++◌, Some, map, option_to_list, ap, ap₂, sym, ◌∙◌}
+use Rattle.std.proofs.Common.{◌≡◌, List, [], ◌∷◌, ◌++◌, Option, Some, None, MatchOption, is_some, map, option_to_list}
+use Rattle.std.proofs.Common.{ap, ap₂, sym, ◌∙◌}
 use Rattle.std.specs.List.{flat_map}
 use Rattle.std.proofs.lemmas.List.{append-nil}
 use Rattle.jp_document.specs.Node.{Node, root_of}
@@ -8,7 +9,7 @@ use Rattle.jp_tree.specs.Tree.{segments}
 use Rattle.jp_tree.specs.Views.{query_of, segment_of}
 use Rattle.jp_tree.specs.declared.tree.Query.{Query, out-Query}
 use Rattle.jp_tree.specs.declared.tree.Segment.{Segment}
-use Rattle.jp_evaluate.specs.Nodelist.{nodelist_at, result, start_of}
+use Rattle.jp_evaluate.specs.Nodelist.{has_node, nodelist_at, result, start_of}
 use Rattle.jp_evaluate.specs.Private.Walk.{choice_at, choice_reaches, frames_pending, reached_at}
 use Rattle.jp_evaluate.specs.Private.Walk.{reaches, start_choice, walk_frames, walk_reaches}
 use Rattle.jp_evaluate.specs.declared.walk.Walk.{Walk}
@@ -37,3 +38,9 @@ begun_nodelist means q all d c w v are starts first frames =
     begun_reaches means all d w v first frames
     ∙ ap₂ (λ xs n. result (segments (map segment_of xs)) d (n ∷ [])) (sym are) starts
     ∙ sym (ap (λ t. nodelist_at t d c) (query_of-is q))
+
+-- whether a first node was given is whether there are nodes
+pub first-told : {X : Type 0} (o : Option X) (ns ms : List Node) (f : X → Node)
+    → MatchOption o ((ns ≡ []) × (ms ≡ [])) (λ x. ns ≡ f x ∷ ms) → is_some o ≡ has_node ns
+first-told None ns ms f none = ap has_node (sym none.0)
+first-told (Some x) ns ms f some = ap has_node (sym some)

@@ -1,10 +1,10 @@
 -- What a frame of a walk still has to choose: its turns, which are selectors with the segments after
 -- them, one after another, and of a turn the candidates from a position on.
-use Rattle.std.proofs.Common.{◌≡◌, ℕ, suc, ◌+◌, List, [], ◌∷◌, ◌++◌, Option, Some}
+use Rattle.std.proofs.Common.{◌≡◌, ◌≤◌, ℕ, suc, ◌+◌, ◌-◌, List, [], ◌∷◌, ◌++◌, Option, Some, length}
 use Rattle.std.proofs.Common.{None, drop, map, option_and_then, option_map, option_to_list, Vec}
 use Rattle.std.proofs.Common.{Global, refl, ap, ap₂, sym, ◌∙◌, append_assoc, arith}
 use Rattle.std.specs.List.{flat_map, slice_get}
-use Rattle.std.proofs.lemmas.List.{append-nil, drop-map}
+use Rattle.std.proofs.lemmas.List.{append-nil, drop-map, length-append, length-drop}
 use Rattle.std.proofs.lemmas.Option.{slice_get-map}
 use Rattle.jp_document.specs.Location.{Step, Location, entries}
 use Rattle.jp_document.specs.Value.{Value}
@@ -13,7 +13,7 @@ use Rattle.jp_tree.specs.declared.tree.Segment.{Segment}
 use Rattle.jp_select.proofs.Walks.{drop_at, drop_past}
 use Rattle.jp_select.specs.Selectors.{candidates}
 use Rattle.jp_evaluate.specs.Private.Walk.{Choice, choice_at, choice_of, choices_from}
-use Rattle.jp_evaluate.specs.Private.Walk.{LeadsNowhere, LeadsNowhereAt, IsLeaf, Skips, frame_choices, frames_pending, pending, reached_at}
+use Rattle.jp_evaluate.specs.Private.Walk.{LeadsNowhere, LeadsNowhereAt, IsLeaf, Skips, frame_choices, frames_pending, pending, reached_at, segments_left, turns}
 use Rattle.jp_evaluate.specs.Private.Walk.{start_choice, steps_of, turn_choices, walk_frames}
 use Rattle.jp_evaluate.proofs.Walks.Skipping.{skips-before, skips-from, skips-map, skips-same, skips-then}
 use Rattle.jp_evaluate.specs.declared.walk.Frame.{Frame}
@@ -68,6 +68,30 @@ turn_next v ts i k t at past =
     ∙ ap (λ cs. cs ++ flat_map (turn_choices v) (drop (suc i) ts))
     (sym (drop_past (turn_choices v t) k none))
     ∙ ap (λ us. choices_from v us k) (sym (drop_at ts i t at))
+
+-- as many fewer as positions are gone on by, at most
+positions-between : (v : Value) (ts : List (SelectorTree × SegmentTrees)) (i j : ℕ)
+    → length (choices_from v ts i) ≤ (j - i) + length (choices_from v ts j)
+positions-between v [] i j = omega arith
+positions-between v (t ∷ ts) i j =
+    let cs = turn_choices v t in
+    let more = flat_map (turn_choices v) ts in
+    let a = length-append (drop i cs) more in
+    let b = length-append (drop j cs) more in
+    let x = length-drop i cs in
+    let y = length-drop j cs in
+    omega arith
+
+-- those of a frame that goes on in its turn
+pub fewer-on : {V : Type 0} (means : V → Value) (all : List Segment) (f g : Frame V) → g.reached ≡ f.reached
+    → g.turn ≡ f.turn
+    → length (frame_choices means all f) ≤ (g.next - f.next) + length (frame_choices means all g)
+fewer-on {V = X} means all f g reached same =
+    let on = λ (p : Reached X) (i : ℕ). choices_from (means p.value) (drop i (turns (segments_left all p.done))) g.next in
+    let there = ap length (ap₂ on (sym reached) (sym same)) in
+    let fewer = positions-between (means f.reached.value) (drop f.turn (turns (segments_left all f.reached.done)))
+    f.next g.next in
+    omega arith
 
 -- ---- choices that are skipped
 

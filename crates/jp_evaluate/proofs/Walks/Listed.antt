@@ -1,10 +1,11 @@
 -- A child that the last segment chooses without a test: the node that comes first.
-use Rattle.std.proofs.Common.{◌≡◌, ◌+◌, ◌≤◌, List, [], ◌∷◌, ◌++◌, Option, Some, None, length, map, option_map}
-use Rattle.std.proofs.Common.{if◌then◌else◌, refl, sym, ap, ◌∙◌}
-use Rattle.std.specs.List.{slice_get}
+use Rattle.std.proofs.Common.{◌≡◌, suc, ◌+◌, ◌≤◌, List, [], ◌∷◌, ◌++◌, Option, Some, None, length, map, option_map}
+use Rattle.std.proofs.Common.{if◌then◌else◌, refl, sym, ap, ◌∙◌, arith}
+use Rattle.std.specs.List.{slice_get, sum_by}
+use Rattle.std.proofs.lemmas.List.Sums.{sum_by-cons}
 use Rattle.std.proofs.lemmas.Option.{same_Some, slice_get_past}
 use Rattle.jp_document.specs.Location.{Step}
-use Rattle.jp_document.specs.Node.{node_at}
+use Rattle.jp_document.specs.Node.{node_at, root_of}
 use Rattle.jp_document.specs.Value.{Value}
 use Rattle.jp_tree.specs.Tree.{segments}
 use Rattle.jp_tree.specs.Views.{segment_of}
@@ -12,6 +13,8 @@ use Rattle.jp_tree.specs.declared.tree.Segment.{Segment}
 use Rattle.jp_lent.specs.Lending.{entry_value}
 use Rattle.jp_select.proofs.Walks.{drop_past}
 use Rattle.jp_select.specs.Selectors.{candidates}
+use Rattle.jp_evaluate.specs.Cost.{cost}
+use Rattle.jp_evaluate.specs.Private.Due.{choice_cost, walk_cost}
 use Rattle.jp_evaluate.specs.Private.Walk.{GivesChild, LeadsNowhere, LeadsNowhereAt, Skips, choice_at, choice_of, chosen_node}
 use Rattle.jp_evaluate.specs.Private.Walk.{frame_choices, passes, pending, reached_at, reaches, segments_left, test_of}
 use Rattle.jp_evaluate.specs.Private.Walk.{turn_of, turn_selector, turns, walk_frames, walk_reaches}
@@ -20,6 +23,7 @@ use Rattle.jp_evaluate.specs.declared.walk.Turn.{Turn}
 use Rattle.jp_evaluate.specs.declared.walk.Walk.{Walk}
 use Rattle.jp_evaluate.proofs.Walks.Advances.{skipped-reach}
 use Rattle.jp_evaluate.proofs.Walks.Choices.{choice_next, frame_next}
+use Rattle.jp_evaluate.proofs.Walks.Costs.{ended-cost, top-cost}
 use Rattle.jp_evaluate.proofs.Walks.Skipping.{skips-none, skips-same}
 
 abbrev pub past-choice : {V : Type 0} → Frame V → Frame V
@@ -64,3 +68,26 @@ child-first means all w f turn x first top at past untested is =
           (drop_past all turn.done (slice_get_past all turn.done past))
           ∙ ap (λ y. node_at (l ++ e.0 ∷ []) y ∷ walk_reaches means all d v) taken.1.1;
     }
+
+-- one step is what it takes
+pub child-cost : {V : Type 0} (means : V → Value) (all : List Segment) (w : Walk V) (f : Frame V) (turn : Turn) (x : V)
+    → w.first ≡ None → w.top ≡ Some f
+    → slice_get (turns (segments_left all f.reached.done)) f.turn ≡ Some (turn_of all turn)
+    → length all ≤ turn.done → test_of (turn_selector turn) ≡ None
+    → Some (means x) ≡ option_map entry_value (slice_get (candidates (turn_selector turn) (means f.reached.value)) f.next)
+    → (d : Value) → walk_cost means all d w ≡ suc (walk_cost means all d (behind-choice w f))
+child-cost means all w f turn x first top at past untested is = λ d.
+    let within = means f.reached.value in
+    let t = turn_of all turn in
+    let taken = entry-taken (slice_get (candidates t.0 within) f.next) (means x) is in
+    let e = taken.0 in
+    let rest = frame_choices means all (past-choice f) in
+    let one : choice_cost d (choice_of t e) ≡ 1 =
+    ap (λ o. if passes o d (root_of e.1) then cost t.1 d e.1 else 1) untested
+    ∙ ended-cost all turn.done d e.1 past in
+    let sum = ap (sum_by (choice_cost d))
+    (choice_next within (turns (segments_left all f.reached.done)) f.turn f.next t e at taken.1.0)
+    ∙ sum_by-cons (choice_cost d) (choice_of t e) rest in
+    let before = top-cost means all d w f first top in
+    let after = top-cost means all d (behind-choice w f) (past-choice f) first refl in
+    omega arith

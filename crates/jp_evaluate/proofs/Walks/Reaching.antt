@@ -44,7 +44,7 @@ all_kept : (d : Value) (ns : List Node) → those_of (passes None d) ns ≡ ns
 all_kept d [] = refl
 all_kept d (n ∷ ns) = ap (λ t. n ∷ t) (all_kept d ns)
 
-selection-kept : (s : SelectorTree) (d : Value) (n : Node)
+pub selection-kept : (s : SelectorTree) (d : Value) (n : Node)
     → selection s d n ≡
     those_of (passes (test_of s) d) (map (node_below n.location) (candidates s n.value))
 selection-kept (filter e) d n = refl
@@ -151,7 +151,7 @@ inner_weight f k (n ∷ ns) =
     ∙ ap (λ m. f n.value + m) (inner_weight f k ns)
     ∙ sym (sum_by-cons (λ (m : Node). f m.value) n ns)
 
-inners_weight : (f : Value → ℕ) (es : List (Step × Value))
+pub inners_weight : (f : Value → ℕ) (es : List (Step × Value))
     → sum_by (λ n. f n.value) (flat_map inner es) ≡
     sum_by (λ e. sum_by (λ n. f n.value) (nodes_in e.1)) es
 inners_weight f [] = refl

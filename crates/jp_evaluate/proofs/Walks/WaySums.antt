@@ -20,7 +20,7 @@ use Rattle.jp_evaluate.specs.declared.tally.Ways.{Ways}
 use Rattle.jp_evaluate.specs.Private.Tally.{ByStep, Counts, all_ways, capped, children_sum, inside}
 use Rattle.jp_evaluate.specs.Private.Tally.{places_sum, ways_sum}
 use Rattle.jp_evaluate.proofs.Walks.Capped.{capped_more}
-use Rattle.jp_evaluate.proofs.Walks.Selects.{step-order}
+use Rattle.jp_evaluate.proofs.Walks.Locations.{step-order}
 
 -- ---- entries of a map
 

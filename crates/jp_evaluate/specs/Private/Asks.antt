@@ -4,6 +4,8 @@ use Rattle.std.specs.Prelude.{Option, Some, None}
 use Rattle.std.specs.Borrow.{Bor}
 use Rattle.std.specs.Str.{encode_utf8_all}
 use Rattle.jp_flat.specs.declared.asked.AskedFor.{AskedFor}
+use Rattle.jp_held.specs.declared.portion.Portion.{Portion}
+use Rattle.jp_held.specs.declared.portion.Portion.TheVariants.{Members, Whole}
 use Rattle.jp_tree.specs.Tree.{ArgumentTree, ArgumentTrees, CallTree, ExprTree, ExprTrees}
 use Rattle.jp_tree.specs.Tree.{OperandTree, QueryTree, SegmentTrees, SelectorTree, SelectorTrees}
 use Rattle.jp_tree.specs.Tree.{all_of, any_of, argument_then, call, call_argument, call_test}
@@ -106,6 +108,15 @@ abbrev pub asks_items : (List ℕ → Bool) → SegmentTrees → Bool
 asks_items p (segment_then (segment false ss) rest) = asks_selectors p ss && asks_members p rest
 asks_items p _ = false
 
+-- the query asks for these members of the document alone
+abbrev pub asks_root : (List ℕ → Bool) → QueryTree → Bool
+asks_root p (query absolute all) = asks_members p all
+
+-- the same of each query
+abbrev pub asks_each : (List ℕ → Bool) → List QueryTree → Bool
+asks_each p [] = true
+asks_each p (q ∷ qs) = asks_root p q && asks_each p qs
+
 -- the name that is the only selector
 abbrev pub only_name : SelectorTrees → Option (List ℕ)
 only_name (selector_then s no_selectors) = name_selected s
@@ -120,6 +131,11 @@ asked_anywhere _ = None
 -- a query of these segments asks no more
 abbrev pub AskNoMore : SegmentTrees → AskedFor → Type 0
 AskNoMore all asked = (absolute : Bool) → AsksNoMore (query absolute all) asked
+
+-- what is wanted of a document of which so much is asked, where it is told
+abbrev pub portion_asked : Option AskedFor → Portion
+portion_asked (Some asked) = Members asked
+portion_asked None = Whole
 
 -- ---- the names that were seen
 

@@ -1,7 +1,7 @@
 -- How many nodes segments reach, told by the values that they lead to and by how many ways; m says
 -- what a value that is lent stands for.
 use Rattle.std.specs.Prelude.{◌≡◌, ◌≤◌, ◌<◌, ◌-◌, ◌*◌, ◌^◌, ℕ, min, nat_le, if◌then◌else◌}
-use Rattle.std.specs.Prelude.{All, List, ◌∷◌, Some, sum_by}
+use Rattle.std.specs.Prelude.{All, List, ◌∷◌, ◌+◌, Some, length, sum_by}
 use Rattle.std.specs.BTreeMap.{BTreeMap}
 use Rattle.std.specs.Option.{option_map_or}
 use Rattle.jp_document.specs.Location.{Step, child, step_of}
@@ -9,6 +9,7 @@ use Rattle.jp_document.specs.Node.{Node, root_of}
 use Rattle.jp_document.specs.Value.{Value}
 use Rattle.jp_document.specs.declared.location.Step as code
 use Rattle.jp_tree.specs.declared.tree.Segment.{Segment}
+use Rattle.jp_evaluate.specs.Cost.{entering_cost}
 use Rattle.jp_evaluate.specs.Private.Walk.{Choice, choices_from, passes, reaches, segments_left}
 use Rattle.jp_evaluate.specs.Private.Walk.{turns, weight}
 use Rattle.jp_evaluate.specs.declared.tally.Place.{Place}
@@ -94,6 +95,10 @@ way_weight all v w = weight (segments_left all w.done) v
 
 abbrev pub spread_weight : List Segment → Value → ℕ → ℕ
 spread_weight all v done = sum_by (λ c. weight c.left c.value) (choices_at all v done)
+
+-- the steps of going on by a way: of going into the value, and one for each choice
+abbrev pub way_cost : List Segment → Value → ℕ → ℕ
+way_cost all v done = entering_cost (segments_left all done) + length (choices_at all v done)
 
 -- ---- what is told
 

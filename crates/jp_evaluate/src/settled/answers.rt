@@ -1,12 +1,13 @@
 //! The answers of absolute queries that name no location, and what stands for them.
 
-ghost use Rattle.std.specs.Prelude.{◌≡◌, IfOk, map, option_map};
+ghost use Rattle.std.specs.Prelude.{◌≡◌, IfOk, OnOk, Some, map, option_map};
 ghost use Rattle.jp_tree.specs.Tree.{arguments as argument_trees};
 ghost use Rattle.jp_tree.specs.Views.{argument_of, call_of, expr_of, literal_of, query_of};
 ghost use Rattle.jp_tree.specs.Views.{subject_of};
-ghost use Rattle.jp_select.specs.Steps.{Takes};
+ghost use Rattle.jp_select.specs.Steps.{Counts, Takes};
 ghost use Rattle.jp_evaluate.specs.Stopping.{StopsSpent};
 ghost use Rattle.jp_evaluate.specs.Private.Calls.{call_function};
+ghost use Rattle.jp_evaluate.specs.Private.Compared.{location_steps};
 ghost use Rattle.jp_evaluate.specs.Private.Selecting.{nodes_query};
 ghost use Rattle.jp_evaluate.specs.Private.Settled.{count_answer, count_nodes, given_query};
 ghost use Rattle.jp_evaluate.specs.Private.Settled.{is_asked_once, is_at_path, nodes_counted};
@@ -16,6 +17,7 @@ ghost use Rattle.jp_evaluate.specs.Private.Settled.{test_query, truth, value_nod
 ghost use Rattle.jp_evaluate.specs.Private.OnlyNode.{told_node};
 
 use crate::calls::{argument_query, call_query, function_of, only_argument};
+use crate::compared::take_location;
 use crate::evaluating::{Evaluation, Work};
 use crate::evaluation_fault::EvaluationFault;
 use crate::filter::Asking;
@@ -110,14 +112,33 @@ impl<'q, V: Selectable + 'q, M: Matching> Evaluation<'q, V, M> {
         ensures takes { Takes work.old.steps work.new.steps }
         ensures stopped { StopsSpent result work.new.steps }
     {
-        let mut arguments = Vec::new(self.alloc);
-        if let Some(node) = self.only_node(work, nodes)? {
-            let path = path_query(self.alloc, &node.location)?;
-            if !self.is_at(work, &path, node.value)? {
-                return Ok(None);
-            }
-            arguments.push(Argument::Query(path))?;
+        match self.only_node(work, nodes)? {
+            Some(node) => self.path_to(work, &node),
+            None => Ok(Some(Vec::new(self.alloc))),
         }
+    }
+
+    /// The path of a node as an argument, None where it does not lead to the node's value. The names in it
+    /// are copied and compared, so it takes the steps for the location.
+    fn path_to(
+        &self,
+        work: &mut Work,
+        node: &OnlyNode<'_, V>,
+    ) -> Result<Option<Vec<Argument>>, EvaluationFault>
+        ensures gives { IfOk result (λ o. option_map (λ v. argument_trees (map argument_of v.items)) o
+            ≡ path_arguments (V.meaning self.now.root) (Some (told_node V.meaning node.now))) }
+        ensures takes { Takes work.old.steps work.new.steps }
+        ensures stopped { StopsSpent result work.new.steps }
+        ensures counts { OnOk result (Counts (location_steps (told_node V.meaning node.now).location)
+            work.old.steps work.new.steps) }
+    {
+        take_location(&node.location, &mut work.steps)?;
+        let path = path_query(self.alloc, &node.location)?;
+        if !self.is_at(work, &path, node.value)? {
+            return Ok(None);
+        }
+        let mut arguments = Vec::new(self.alloc);
+        arguments.push(Argument::Query(path))?;
         Ok(Some(arguments))
     }
 

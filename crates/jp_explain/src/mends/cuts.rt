@@ -1,16 +1,37 @@
 //! Where a text is cut to be mended.
 
+ghost use Rattle.std.specs.Prelude.{◌≡◌, ◌++◌, ◌⊎◌, [], true, false, drop, length, position, take, unwrap_or};
+ghost use Rattle.std.specs.List.{list_any, prefix_len};
+ghost use Rattle.jp_reading.specs.Texts.{is_among};
+ghost use Rattle.jp_explain.specs.declared.class.Class.TheVariants.{Blank};
+ghost use Rattle.jp_explain.specs.Classes.{holds};
+ghost use Rattle.jp_explain.specs.Marks.{begins_in};
+
 use crate::class::{Class, split_prefix};
 use crate::marks::{ends, is_among, stem, without_last};
 
 /// The text cut before that character, or at its end.
-fn cut_before(text: &[char], place: Option<usize>) -> (&[char], &[char]) {
+fn cut_before(text: &[char], place: Option<usize>) -> (&[char], &[char])
+    ensures before { result.0.now ≡ take (unwrap_or place (length text.now)) text.now }
+    ensures after { result.1.now ≡ drop (unwrap_or place (length text.now)) text.now }
+{
     text.split_at(place.unwrap_or(text.len()).min(text.len()))
 }
 
 /// The text cut before the first of these signs; if there is none, all of it is before.
-pub(super) fn cut_at<'t>(text: &'t [char], signs: &str) -> (&'t [char], &'t [char]) {
-    cut_before(text, text.iter().position(|c| is_among(signs, *c)))
+pub(super) fn cut_at<'t>(text: &'t [char], signs: &str) -> (&'t [char], &'t [char])
+    ensures parts { text.now ≡ result.0.now ++ result.1.now }
+    ensures before { list_any (is_among signs.now) result.0.now ≡ false }
+    ensures sign { begins_in result.1.now signs.now ≡ true ⊎ (result.1.now ≡ []) }
+{
+    cut_before(text, first_among(text, signs))
+}
+
+/// Where the first of these signs stands.
+fn first_among(text: &[char], signs: &str) -> Option<usize>
+    ensures { result ≡ position (is_among signs.now) text.now }
+{
+    text.iter().position(|c| is_among(signs, *c))
 }
 
 /// Whether one of these signs stands in the text.
@@ -57,8 +78,17 @@ pub(super) fn cut_call(text: &[char]) -> (&[char], &[char]) {
 }
 
 /// The text without the blanks that it begins with.
-pub(super) fn past_blanks(text: &[char]) -> &[char] {
+pub(super) fn past_blanks(text: &[char]) -> &[char]
+    ensures { result.now ≡ drop (prefix_len (holds Blank) text.now) text.now }
+{
     split_prefix(text, Class::Blank).1
+}
+
+/// The text without as many characters as the word has, which is in ASCII.
+pub(super) fn past_word<'t>(text: &'t [char], word: &str) -> &'t [char]
+    ensures { result.now ≡ drop (length word.now) text.now }
+{
+    &text[word.len().min(text.len())..]
 }
 
 /// The text without the name that it begins with.

@@ -1,11 +1,15 @@
 //! Mends at the end of a query.
 
+ghost use Rattle.std.specs.Prelude.{◌≡◌, ◌++◌, IfOk, IfSome, reverse, string_bytes};
+ghost use Rattle.std.specs.Str.{chars};
+
 use super::Piece::{Kept, New};
 use super::cuts::{cut_at, has, past_blanks};
-use super::{Cut, Mended, joined, push_characters, spliced};
+use super::{Cut, Mended, joined, spliced, write_characters};
 use crate::class::{Class, split_suffix};
 use crate::marks::{begins_as, ends, is, stem, without_first, without_last};
 use crate::reason::Reason;
+use jp_canon::Writer;
 use std::alloc::{AllocError, Global};
 
 pub(super) fn mended(alloc: Global, reason: Reason, Cut { front, rest }: Cut<'_>) -> Mended {
@@ -91,13 +95,17 @@ fn closed(alloc: Global, front: &[char]) -> Mended {
     }
 }
 
-fn bracketed(alloc: Global, kept: &[char], closing: &[char]) -> Mended {
-    let mut text = String::new(alloc);
-    push_characters(&mut text, kept)?;
+/// The text with what closes it behind it: what was opened last is closed first.
+fn bracketed(alloc: Global, kept: &[char], closing: &[char]) -> Mended
+    ensures { IfOk result (λ o. IfSome o
+        (λ text. chars (string_bytes text) ≡ kept.now ++ reverse closing.now)) }
+{
+    let mut out = Writer::new(alloc);
+    write_characters(&mut out, kept)?;
     for c in closing.iter().rev() {
-        text.push(*c)?;
+        out.character(*c)?;
     }
-    Ok(Some(text))
+    Ok(Some(out.into_text()))
 }
 
 /// The text with the mark before the first bracket or parenthesis that may close, if no other mark

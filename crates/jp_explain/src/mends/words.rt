@@ -1,7 +1,11 @@
 //! Mends of words: names without quotes, literals of other languages, and functions.
 
+ghost use Rattle.std.specs.Prelude.{IfOk, IfSome, string_bytes};
+ghost use Rattle.std.specs.Str.{chars};
+ghost use Rattle.jp_explain.specs.Private.FromEnd.{IsFromEnd};
+
 use super::Piece::{Kept, New};
-use super::cuts::{cut_at, cut_call, cut_name, cut_side, past_blanks, past_name};
+use super::cuts::{cut_at, cut_call, cut_name, cut_side, past_blanks, past_name, past_word};
 use super::{Cut, Mended, joined, quoted, spliced};
 use crate::class::{Class, split_prefix, split_suffix};
 use crate::marks::{
@@ -15,7 +19,7 @@ pub(super) fn mended(alloc: Global, reason: Reason, cut: Cut<'_>) -> Mended {
     let Cut { front, rest } = cut;
     match reason {
         Reason::Not => negation(alloc, cut),
-        Reason::LastItem => last_item(alloc, cut),
+        Reason::LastItem => last_item(alloc, front, rest),
         Reason::BracketName => {
             let (name, after) = cut_name(rest, "-");
             quoted(alloc, front, name, after)
@@ -45,19 +49,21 @@ fn negation(alloc: Global, Cut { front, rest }: Cut<'_>) -> Mended {
     }
 }
 
-/// XPath's `last()`, and a script such as `(@.length-1)`, as an index.
-fn last_item(alloc: Global, Cut { front, rest }: Cut<'_>) -> Mended {
+/// XPath's `last()`, and a script such as `(@.length-1)`, as an index: the digits are those of the script.
+fn last_item<'t>(alloc: Global, front: &'t [char], rest: &'t [char]) -> Mended
+    ensures { IfOk result (λ o. IfSome o
+        (λ text. IsFromEnd front.now rest.now (chars (string_bytes text)))) }
+{
     if begins(rest, "last()") {
-        let after = without_first(without_first(past_name(rest)));
-        return spliced(alloc, front, "-1", after);
+        return spliced(alloc, front, "-1", past_word(rest, "last()"));
     }
     let (_, less) = cut_at(rest, "-");
-    match split_prefix(past_blanks(without_first(less)), Class::Digit) {
-        (digits, [')', after @ ..]) => {
-            joined(alloc, &[Kept(front), New("-"), Kept(digits), Kept(after)])
-        }
-        _ => Ok(None),
+    let (digits, end) = split_prefix(past_blanks(without_first(less)), Class::Digit);
+    if !begins(end, ")") {
+        return Ok(None);
     }
+    let after = without_first(end);
+    joined(alloc, &[Kept(front), New("-"), Kept(digits), Kept(after)])
 }
 
 fn literal(alloc: Global, Cut { front, rest }: Cut<'_>) -> Mended {

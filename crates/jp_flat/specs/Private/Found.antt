@@ -5,6 +5,7 @@ use Rattle.std.specs.Borrow.{Bor}
 use Rattle.std.specs.Ordering.{is_eq}
 use Rattle.json.specs.Token.{Token}
 use Rattle.jp_document.specs.Location.{Location, Step, named, step_cmp, step_of, value_at}
+use Rattle.jp_flat.specs.Private.Integer.{whole_number}
 use Rattle.jp_flat.specs.Private.FromTokens.{ReadsItems, ReadsMembers, ReadsText, ReadsValue}
 use Rattle.jp_document.specs.Value.{Value, everywhere, everywhere_in_items, everywhere_in_members}
 use Rattle.jp_document.specs.Value.{items_of, list, list_fits, members_of, object}
@@ -55,7 +56,7 @@ IsFoundAs n t o (Some i) = (v : Value) × (o ≡ Some v) × (flat_value n t i �
 pub record FindsAt (depth : ℕ) (ts rest : List Token) (t : Shown) (l : Option Location)
     (i : Option Item) : Type 0 where
   pub value : Value
-  pub reads : ReadsValue depth ts rest value
+  pub reads : ReadsValue whole_number depth ts rest value
   pub short : everywhere list_fits value ≡ true
   pub found : IsFoundAs depth t (value_sought l value) i
 
@@ -63,7 +64,7 @@ pub record FindsAt (depth : ℕ) (ts rest : List Token) (t : Shown) (l : Option 
 pub record FindsItem (depth : ℕ) (ts rest : List Token) (t : Shown) (l : Option Location)
     (i : Option Item) : Type 0 where
   pub values : List Value
-  pub reads : ReadsItems depth (length ts) ts rest (items_of values)
+  pub reads : ReadsItems whole_number depth (length ts) ts rest (items_of values)
   pub within : everywhere_in_items list_fits (items_of values) ≡ true
   pub short : list_fits (list (items_of values)) ≡ true
   pub found : IsFoundAs depth t (value_sought l (list (items_of values))) i
@@ -72,7 +73,7 @@ pub record FindsItem (depth : ℕ) (ts rest : List Token) (t : Shown) (l : Optio
 pub record FindsMember (depth : ℕ) (ts rest : List Token) (t : Shown) (l : Option Location)
     (i : Option Item) : Type 0 where
   pub members : List (List ℕ × Value)
-  pub reads : ReadsMembers depth (length ts) ts rest (members_of members)
+  pub reads : ReadsMembers whole_number depth (length ts) ts rest members
   pub within : everywhere_in_members list_fits (members_of members) ≡ true
   pub found : IsFoundAs depth t (value_sought l (object (members_of members))) i
 
@@ -80,7 +81,7 @@ pub record FindsMember (depth : ℕ) (ts rest : List Token) (t : Shown) (l : Opt
 pub record FindsInText (source : List ℕ) (t : Shown) (l : Location) (i : Option Item) : Type 0
   where
     pub value : Value
-    pub reads : ReadsText source value
+    pub reads : ReadsText whole_number source value
     pub short : everywhere list_fits value ≡ true
     pub found : IsFoundAs most_levels t (value_at value l) i
 

@@ -1,35 +1,41 @@
--- Values straight from the tokens of a text, as `serde_json` reads them.
-use Rattle.std.specs.Prelude.{◌≡◌, ℕ, List, Some}
+-- Values straight from the tokens of a text, by what becomes of the text of a number.
+use Rattle.std.specs.Prelude.{◌≡◌, ℕ, List, [], Option, Some, option_map, option_and_then}
 use Rattle.json.specs.Token.{Token}
-use Rattle.json.specs.Json as tokens
-use Rattle.serde_json.specs.Data as parsed
-use Rattle.serde_json.specs.Data.{Data}
-use Rattle.serde_json.specs.Read.{of_json, of_items, of_members, converted, read}
-use Rattle.jp_document.specs.Document.{value_of_data, items_of_data, members_of_data}
-use Rattle.jp_document.specs.Value.{Value, Items, Members}
+use Rattle.json.specs.Json as json
+use Rattle.json.specs.Lex.{tokens}
+use Rattle.jp_document.specs.Value.{Value, Items}
+use Rattle.jp_flat.specs.Flat.{most_levels}
+use Rattle.jp_flat.specs.OfJson.{value_of_json, items_of_json, members_of_json}
 
--- a reading of the text holds the value v
-pub record ReadsText (text : List ℕ) (v : Value) : Type 0 where
-  pub reading : Data
-  pub read : read text ≡ Some reading
-  pub holds : value_of_data reading ≡ Some v
+-- what was read, under f
+abbrev pub converted : {A B : Type 0} → (A → Option B) → Option (A × List Token)
+    → Option (B × List Token)
+converted f read = option_and_then (λ p. option_map (λ b. (b, p.1)) (f p.0)) read
 
--- the tokens begin with the value v, nested no deeper than the number, and the rest follows
-pub record ReadsValue (depth : ℕ) (ts rest : List Token) (v : Value) : Type 0 where
-  pub reading : Data
-  pub read : converted of_json (tokens.value depth ts) ≡ Some (reading, rest)
-  pub holds : value_of_data reading ≡ Some v
+-- what the grammar reads a whole text as, nested no deeper than a document
+abbrev pub json_in : List ℕ → Option json.Json
+json_in text = option_and_then (λ p. json.if_last p.0 p.1) (json.value most_levels (tokens text))
 
--- the same of the items of a list, in at most so many rounds
-pub record ReadsItems (depth rounds : ℕ) (ts rest : List Token) (vs : Items) : Type 0 where
-  pub reading : parsed.Items
-  pub read : converted of_items (tokens.items (tokens.value depth) rounds ts) ≡ Some (reading, rest)
-  pub holds : items_of_data reading ≡ Some vs
+module _ (numbers : List ℕ → Option Value) where
+  -- the text has the value v
+  pub record ReadsText (text : List ℕ) (v : Value) : Type 0 where
+    pub parsed : json.Json
+    pub read : json_in text ≡ Some parsed
+    pub holds : value_of_json numbers parsed ≡ Some v
 
--- the same of the members of an object
-pub record ReadsMembers (depth rounds : ℕ) (ts rest : List Token) (ms : Members) : Type 0 where
-  pub reading : parsed.Members
-  pub read :
-      converted (λ js. of_members js parsed.no_members)
-      (tokens.members (tokens.value depth) rounds ts) ≡ Some (reading, rest)
-  pub holds : members_of_data reading ≡ Some ms
+  -- the tokens begin with the value v, nested no deeper than the number, and the rest follows
+  pub record ReadsValue (depth : ℕ) (ts rest : List Token) (v : Value) : Type 0 where
+    pub read : converted (value_of_json numbers) (json.value depth ts) ≡ Some (v, rest)
+
+  -- the same of the items of a list, in at most so many rounds
+  pub record ReadsItems (depth rounds : ℕ) (ts rest : List Token) (vs : Items) : Type 0 where
+    pub read :
+        converted (items_of_json numbers) (json.items (json.value depth) rounds ts)
+        ≡ Some (vs, rest)
+
+  -- the same of the members of an object
+  pub record ReadsMembers (depth rounds : ℕ) (ts rest : List Token) (ms : List (List ℕ × Value))
+      : Type 0 where
+    pub read :
+        converted (λ js. members_of_json numbers js []) (json.members (json.value depth) rounds ts)
+        ≡ Some (ms, rest)

@@ -7,6 +7,7 @@ use Rattle.jp_document.specs.Value.{Value, everywhere, everywhere_in_items, ever
 use Rattle.jp_document.specs.Value.{items_of, list, list_fits, members_of, object}
 use Rattle.jp_flat.specs.Asked.{IsKept, IsThinned, is_listed, is_leaf, is_name}
 use Rattle.jp_flat.specs.Flat.{Shown, flat_value, most_levels}
+use Rattle.jp_flat.specs.Private.Integer.{whole_number}
 use Rattle.jp_flat.specs.Private.FromTokens.{ReadsItems, ReadsMembers, ReadsText, ReadsValue}
 use Rattle.jp_flat.specs.Private.Reading.{IsAboveLast}
 use Rattle.jp_flat.specs.Private.Tokens.{HasSpan, said}
@@ -22,7 +23,7 @@ module _ (Keeps : Value → Value → Type 0) where
   pub record KeepsFlat (depth : ℕ) (ts rest : List Token) (t : Shown) (i : Item) : Type 0 where
     pub value : Value
     pub kept : Value
-    pub reads : ReadsValue depth ts rest value
+    pub reads : ReadsValue whole_number depth ts rest value
     pub short : everywhere list_fits value ≡ true
     pub keeps : Keeps value kept
     pub means : flat_value depth t i ≡ Some kept
@@ -32,7 +33,7 @@ module _ (Keeps : Value → Value → Type 0) where
     where
       pub values : List Value
       pub kept : Value
-      pub reads : ReadsItems depth (length ts) ts rest (items_of values)
+      pub reads : ReadsItems whole_number depth (length ts) ts rest (items_of values)
       pub within : everywhere_in_items list_fits (items_of values) ≡ true
       pub short : list_fits (list (items_of values)) ≡ true
       pub keeps : Keeps (list (items_of values)) kept
@@ -43,7 +44,7 @@ module _ (Keeps : Value → Value → Type 0) where
     where
       pub members : List (List ℕ × Value)
       pub kept : Value
-      pub reads : ReadsMembers depth (length ts) ts rest (members_of members)
+      pub reads : ReadsMembers whole_number depth (length ts) ts rest members
       pub within : everywhere_in_members list_fits (members_of members) ≡ true
       pub keeps : Keeps (object (members_of members)) kept
       pub means : flat_value (suc depth) t i ≡ Some kept
@@ -52,7 +53,7 @@ module _ (Keeps : Value → Value → Type 0) where
 pub record KeepsFlatText (asked : AskedFor) (source : List ℕ) (t : Shown) (i : Item) : Type 0 where
   pub value : Value
   pub kept : Value
-  pub reads : ReadsText source value
+  pub reads : ReadsText whole_number source value
   pub short : everywhere list_fits value ≡ true
   pub keeps : IsKept asked value kept
   pub means : flat_value most_levels t i ≡ Some kept

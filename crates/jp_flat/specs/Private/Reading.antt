@@ -5,7 +5,7 @@ use Rattle.std.specs.Cmp.Lexicographic.{slice_cmp}
 use Rattle.std.specs.Ordering.{is_lt, nat_cmp}
 use Rattle.json.specs.Token.{Token}
 use Rattle.jp_document.specs.Location.{entries}
-use Rattle.jp_flat.specs.Private.Integer.{IsWholeText}
+use Rattle.jp_flat.specs.Private.Integer.{IsWholeText, whole_number}
 use Rattle.jp_flat.specs.Private.FromTokens.{ReadsItems, ReadsMembers, ReadsText}
 use Rattle.jp_flat.specs.Private.FromTokens.{ReadsValue}
 use Rattle.jp_document.specs.Value.{Value, everywhere, everywhere_in_items, everywhere_in_members}
@@ -19,14 +19,14 @@ use Rattle.jp_flat.specs.declared.item.Named.{Named}
 -- follows
 pub record ReadsFlat (depth : ℕ) (ts rest : List Token) (t : Shown) (i : Item) : Type 0 where
   pub value : Value
-  pub reads : ReadsValue depth ts rest value
+  pub reads : ReadsValue whole_number depth ts rest value
   pub short : everywhere list_fits value ≡ true
   pub means : flat_value depth t i ≡ Some value
 
 -- the same of the items of a list, of which the item is made
 pub record ReadsFlatItems (depth : ℕ) (ts rest : List Token) (t : Shown) (i : Item) : Type 0 where
   pub values : List Value
-  pub reads : ReadsItems depth (length ts) ts rest (items_of values)
+  pub reads : ReadsItems whole_number depth (length ts) ts rest (items_of values)
   pub within : everywhere_in_items list_fits (items_of values) ≡ true
   pub short : list_fits (list (items_of values)) ≡ true
   pub means : flat_value (suc depth) t i ≡ Some (list (items_of values))
@@ -35,7 +35,7 @@ pub record ReadsFlatItems (depth : ℕ) (ts rest : List Token) (t : Shown) (i : 
 pub record ReadsFlatMembers (depth : ℕ) (ts rest : List Token) (t : Shown) (i : Item) : Type 0
   where
     pub members : List (List ℕ × Value)
-    pub reads : ReadsMembers depth (length ts) ts rest (members_of members)
+    pub reads : ReadsMembers whole_number depth (length ts) ts rest members
     pub within : everywhere_in_members list_fits (members_of members) ≡ true
     pub means : flat_value (suc depth) t i ≡ Some (object (members_of members))
 
@@ -45,8 +45,8 @@ pub record BeginsValues (depth : ℕ) (ts rest : List Token) (values : List Valu
   pub rounds : ℕ
   pub enough : length rest ≤ rounds
   pub ahead : (vs : List Value) (end : List Token)
-      → ReadsItems depth rounds rest end (items_of vs)
-      → ReadsItems depth (length ts) ts end (items_of (values ++ vs))
+      → ReadsItems whole_number depth rounds rest end (items_of vs)
+      → ReadsItems whole_number depth (length ts) ts end (items_of (values ++ vs))
   pub short : everywhere_in_items list_fits (items_of values) ≡ true
 
 -- the same of the values of items
@@ -91,7 +91,7 @@ IsObjectOf members before after i =
 -- a reading of the text holds the value of the item
 pub record ReadsFlatText (source : List ℕ) (t : Shown) (i : Item) : Type 0 where
   pub value : Value
-  pub reads : ReadsText source value
+  pub reads : ReadsText whole_number source value
   pub short : everywhere list_fits value ≡ true
   pub means : flat_value most_levels t i ≡ Some value
 

@@ -15,9 +15,10 @@ use Rattle.jp_json.specs.Private.Machine.{on, stuck, deep, moved, move, walk, to
 abbrev pub spare_in : List Level → ℕ
 spare_in k = 127 - length k
 
--- where a step leads from these levels, as a reader finds it: to a state and other levels, or nowhere
-abbrev pub IsMoved : List Level → Step → Result State Stop → List Level → Type 0
-IsMoved k x (Ok s) j = moved (spare_in k) k x ≡ on (spare_in j) j s
+-- where a step leads from these levels, as a reader finds it: to a state and other levels, of which that
+-- is the innermost, or nowhere
+abbrev pub IsMoved : List Level → Step → Result (State × Option Level) Stop → List Level → Type 0
+IsMoved k x (Ok s) j = (moved (spare_in k) k x ≡ on (spare_in j) j s.0) × (s.1 ≡ top j)
 IsMoved k x (Err Unexpected) j = (moved (spare_in k) k x ≡ stuck) × (j ≡ k)
 IsMoved k x (Err TooDeep) j = (moved (spare_in k) k x ≡ deep) × (j ≡ k)
 IsMoved k x (Err Whole) j = ⊥

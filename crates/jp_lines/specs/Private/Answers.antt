@@ -1,19 +1,21 @@
 -- What the answer to one line says. The clauses of `answer` cite it.
-use Rattle.std.specs.Prelude.{◌≡◌, ◌⊎◌, ⊤, ℕ, Bool, true, List, Option, Result, Ok}
-use Rattle.std.specs.Prelude.{Err, IfSome, map}
-use Rattle.jp_document.specs.Location.{step_of}
+use Rattle.std.specs.Prelude.{All, ◌≡◌, ◌⊎◌, ⊤, ℕ, Bool, true, List, Option, Result, Ok}
+use Rattle.std.specs.Prelude.{Err, map}
+use Rattle.jp_document.specs.Document.{IsDocumentFault}
 use Rattle.jp_document.specs.declared.fault.DocumentFault.{DocumentFault}
 use Rattle.jp_document.specs.declared.fault.DocumentFault.TheVariants as document
-use Rattle.jp_tree.specs.Views.{query_of}
-use Rattle.jp_evaluate.specs.Named.{NamesLocation}
+use Rattle.jp_held.specs.declared.portion.Portion.{Portion}
+use Rattle.jp_tree.specs.Views.{expr_of, query_of}
+use Rattle.jp_evaluate.specs.Plan.{Serves, ServesTest}
 use Rattle.jp_command.specs.Output.{AppendsPrefix, WritesAll}
 use Rattle.jp_command.specs.declared.fault.Fault.{Fault}
 use Rattle.jp_command.specs.declared.fault.Fault.TheVariants.{NoMemory, Write}
 use Rattle.jp_lines.specs.Outcome.{Answered, Blank, ComesTo, IsDefective}
-use Rattle.jp_lines.specs.Task.{Task}
+use Rattle.jp_lines.specs.Task.{Keep, Select, Tabulate, Task}
 use Rattle.jp_lines.specs.declared.answer.Reply.{Reply}
 use Rattle.jp_lines.specs.declared.answer.Reply.TheVariants as reply
 use Rattle.jp_lines.specs.declared.answer.Reply.TheVariants.{Written}
+use Rattle.jp_lines.specs.declared.defect.Defect.{Defect}
 use Rattle.jp_lines.specs.declared.defect.Defect.TheVariants.{Document}
 use Rattle.jp_lines.specs.declared.options.Options.{Options}
 use Rattle.jp_lines.specs.declared.task.Task as coded
@@ -24,12 +26,25 @@ abbrev pub defect_of : DocumentFault → Result Reply Fault
 defect_of document.NoMemory = Err NoMemory
 defect_of fault = Ok (reply.Refused (Document fault))
 
--- the location of a selection is the one that its query names, if it is any
-abbrev pub HasNamedLocation : coded.Task → Type 0
-HasNamedLocation (tasks.Select selection) = IfSome selection.location
-    (λ l. NamesLocation (query_of selection.query.now.query) (map step_of l.now))
-HasNamedLocation (tasks.Keep filter) = ⊤
-HasNamedLocation (tasks.Tabulate columns) = ⊤
+-- of the bytes of a line that are no document, the defect is their fault
+abbrev pub IsDefectOfBytes : List ℕ → Defect → Type 0
+IsDefectOfBytes bytes (Document fault) = IsDocumentFault bytes fault
+IsDefectOfBytes bytes _ = ⊤
+
+-- what is read of a document in that portion serves the task
+abbrev pub ServesTask : Task → Portion → Type 0
+ServesTask (Select wanted extent q) p = Serves q p
+ServesTask (Keep e) p = ServesTest e p
+ServesTask (Tabulate style qs) p = All (λ q. Serves q p) qs
+
+-- what is read of a document for the task serves it
+abbrev pub HasPlan : coded.Task → Type 0
+HasPlan (tasks.Select selection) =
+    Serves (query_of selection.query.now.query) selection.plan.now.portion
+HasPlan (tasks.Keep keeping) =
+    ServesTest (expr_of keeping.filter.now.expr) keeping.plan.now.portion
+HasPlan (tasks.Tabulate columns) =
+    All (λ q. Serves q columns.plan.now.portion) (map (λ c. query_of c.query) columns.queries.now)
 
 -- o and p are the output before and after
 module _ {W : Type 0} (contents : W → Option (List ℕ)) (has_failed : W → Bool) (options : Options)
@@ -51,7 +66,7 @@ module _ {W : Type 0} (contents : W → Option (List ℕ)) (has_failed : W → B
   AnswersOrRefuses reply.Blank = ComesTo options task number line Blank × (p ≡ o)
   AnswersOrRefuses (Written selected) = AnswersLine selected
   AnswersOrRefuses (reply.Refused defect) =
-      IsDefective options line defect × (p ≡ o)
+      IsDefective options task number line defect × (p ≡ o)
 
   abbrev pub StopsAnswering : Fault → Type 0
   StopsAnswering NoMemory = ((p ≡ o) ⊎ AnswersInPart) × (has_failed p ≡ has_failed o)

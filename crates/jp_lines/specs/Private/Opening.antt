@@ -70,7 +70,7 @@ module _ (options : Options) {I R W E : Type 0}
     pub record HaltsNext (why : Halt) : Type 0 where
       pub more : Tally
       pub halts : HaltsAt options named opens remaining has_failed read_gives contents
-          writes_failed reports reports_failed task
+          writes_failed reports reports_failed task before.tally
           (left_after before.tally.refused options.reports) name a b o p u v more why
       pub tally : after.tally ≡ plus before.tally more
       pub unread : after.unread ≡ before.unread

@@ -1,5 +1,5 @@
 -- What is written where help or the version is asked for. `show` and `write_shown` cite it.
-use Rattle.std.specs.Prelude.{◌≡◌, ℕ, Bool, true, List, Option}
+use Rattle.std.specs.Prelude.{◌≡◌, ℕ, Bool, true, false, List, Option}
 use Rattle.jp_command.specs.Line.{fault_line}
 use Rattle.jp_command.specs.Output.{AppendsSome}
 use Rattle.jp_command.specs.declared.fault.Fault.{Fault}
@@ -15,11 +15,12 @@ module _ {W : Type 0} (has_failed : W → Bool) (o p : W) where
   StopsShowing _ = ⊥
 
 module _ {W E : Type 0} (contents : W → Option (List ℕ)) (writes_failed : W → Bool)
-    (hung_up : W → Bool) (reports : E → Option (List ℕ)) (reports_failed : E → Bool) where
-  -- clap's text is written, or it is told why not, with this status
+    (hung_up : W → Bool) (holds_back : W → Bool) (reports : E → Option (List ℕ))
+    (reports_failed : E → Bool) where
+  -- clap's text is written and handed on, or it is told why not, with this status
   pub data Shows (o p : W) (u v : E) (status : ℕ) : Type 0 where
     whole : status ≡ 0 → v ≡ u → AppendsSome (contents o) (contents p)
-        → writes_failed p ≡ writes_failed o → Shows o p u v status
+        → writes_failed p ≡ writes_failed o → holds_back p ≡ false → Shows o p u v status
     part : status ≡ 5 → AppendsSome (contents o) (contents p) → writes_failed p ≡ true
         → TellsWriteFault reports reports_failed (hung_up p) u v → Shows o p u v status
     memory : status ≡ 4 → p ≡ o → TellsLine reports reports_failed (fault_line NoMemory) u v

@@ -95,6 +95,32 @@ fn flags_and_names(rt: HostRuntime) -> Result<(), AllocError> {
     Ok(())
 }
 
+/// Records with members that are not asked for, before and behind those that are; a name twice; none of
+/// those; a list, a text; and a fault in what is not asked for.
+const MEMBERS: &str =
+    "{\"x\":1,\"b\":[2,{\"c\":3}],\"y\":0,\"a\":4}\n{\"a\":1,\"x\":0,\"a\":2}\n{\"x\":{\"a\":2}}\n\
+    [{\"a\":2}]\n\"a\"\n{\"x\":1.5,\"a\":2}\n";
+
+#[test]
+fn members_that_are_not_asked_for(rt: HostRuntime) -> Result<(), AllocError> {
+    let told = "line 6: document refused: NotWhole at $['x']\n";
+    let rows: [(&[&str], &str); 4] = [
+        (&["$.a", "$.b[*]"], "4\t[2,{\"c\":3}]\n2\t\n\t\n\t\n\t\n"),
+        (&["$.b..c", "$['a','z']"], "3\t4\n\t2\n\t\n\t\n\t\n"),
+        (&["$.z", "$.w"], "\t\n\t\n\t\n\t\n\t\n"),
+        // the second of these asks for the whole document
+        (&["$.a", "$[?@.a==$.x.a].a"], "4\t\n2\t\n\t2\n\t\n\t\n"),
+    ];
+    for (queries, written) in rows {
+        let mut line = Vec::new(rt.alloc());
+        line.extend_from_slice(&["jp-lines", "columns", "--keep-going"])?;
+        line.extend_from_slice(queries)?;
+        let ended = (3, written, told, 1);
+        assert_ends(&rt, rt.alloc(), line.as_slice(), MEMBERS, false, ended)?;
+    }
+    Ok(())
+}
+
 #[test]
 fn queries_share_the_steps_of_a_document(rt: HostRuntime) -> Result<(), AllocError> {
     // Over `[1,2]` the query `$.*` makes 7 steps, over `[3]` 6.

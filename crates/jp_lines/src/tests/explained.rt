@@ -5,6 +5,7 @@ use super::programs::{assert_ends, words};
 use crate::{Options, Wanted, run_lines, run_program};
 use jp_check::Profile::Standard;
 use jp_command::Device;
+use jp_limit::OutputLimit;
 use std::alloc::{AllocError, Global};
 use std::process::Abort;
 
@@ -146,6 +147,7 @@ fn assert_second(
         summary: false,
         reports: Some(1),
         limit: None,
+        output_limit: OutputLimit::none(),
     };
     let lines = format!(in alloc; "{{}}\n{line}\n{line}\n")?;
     let told = format!(in alloc; "line 2: document refused: NotJson\nline 2, {why}")?;

@@ -88,6 +88,44 @@ fn keeps_lines_byte_for_byte(rt: HostRuntime) -> Result<(), AllocError> {
     Ok(())
 }
 
+/// Records with members that are not asked for, before and behind those that are; a name twice; none of
+/// those; no objects; and faults in what is not asked for.
+const MEMBERS: &str =
+    "{\"x\":1,\"a\":2,\"y\":[3]}\n{\"a\":1,\"x\":0,\"a\":2}\n{\"x\":{\"a\":2}}\n[{\"a\":2}]\n\"a\"\n\
+    {\"x\":1.5,\"a\":2}\n{\"a\":2,\"x\":[1,}\n{\"\\u0061\":2,\"c\":2}\n";
+
+#[test]
+fn members_that_are_not_asked_for(rt: HostRuntime) -> Result<(), AllocError> {
+    let told = "line 6: document refused: NotWhole at $['x']\nline 7: document refused: NotJson\n";
+    let two = "{\"x\":1,\"a\":2,\"y\":[3]}\n{\"a\":1,\"x\":0,\"a\":2}\n";
+    let last = "{\"\\u0061\":2,\"c\":2}\n";
+    let inside = "{\"x\":{\"a\":2}}\n[{\"a\":2}]\n";
+    let others = "{\"x\":{\"a\":2}}\n[{\"a\":2}]\n\"a\"\n";
+    let all = format!(in rt.alloc(); "{two}{others}{last}")?;
+    let anywhere = format!(in rt.alloc(); "{two}{inside}{last}")?;
+    let with_a = format!(in rt.alloc(); "{two}{last}")?;
+    let rows = [
+        ("@.a==2", with_a.as_str()),
+        (
+            "@.a==2&&@.y[0]==3||@.c",
+            "{\"x\":1,\"a\":2,\"y\":[3]}\n{\"\\u0061\":2,\"c\":2}\n",
+        ),
+        ("!@.a", others),
+        ("@.b", ""),
+        ("1==1", all.as_str()),
+        // these ask for the whole document
+        ("$.x.a==2&&!@.b", "{\"x\":{\"a\":2}}\n"),
+        ("count(@.*)==3", "{\"x\":1,\"a\":2,\"y\":[3]}\n"),
+        ("@..a", anywhere.as_str()),
+    ];
+    for (test, written) in rows {
+        let line = ["jp-lines", "keep", "--keep-going", test];
+        let ended = (3, written, told, 1);
+        assert_ends(&rt, rt.alloc(), &line, MEMBERS, false, ended)?;
+    }
+    Ok(())
+}
+
 #[test]
 fn keeps_the_same_however_many_bytes_a_read_gives(rt: HostRuntime) -> Result<(), AllocError> {
     for size in [1, 2, 5, 31, 32, 33, 1_000] {

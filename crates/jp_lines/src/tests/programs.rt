@@ -192,7 +192,7 @@ fn long_query(alloc: Global) -> Result<String, AllocError> {
 
 #[test]
 fn refuses_words_that_name_no_run(rt: HostRuntime) -> Result<(), AllocError> {
-    let lines: [&[&str]; 15] = [
+    let lines: [&[&str]; 20] = [
         &["jp-lines"],
         &["jp-lines", "check", "$"],
         &["jp-lines", "eval"],
@@ -208,6 +208,11 @@ fn refuses_words_that_name_no_run(rt: HostRuntime) -> Result<(), AllocError> {
         &["jp-lines", "eval", "--limit", "18446744073709551616", "$"],
         &["jp-lines", "eval", "--limit", "1", "--limit", "1", "$"],
         &["jp-lines", "eval", "--reports", "few", "$"],
+        &["jp-lines", "eval", "--max-nodes", "$"],
+        &["jp-lines", "keep", "--max-nodes", "0", "@"],
+        &["jp-lines", "count", "--max-nodes=18446744073709551616", "$"],
+        &["jp-lines", "columns", "--max-bytes", "1k", "$"],
+        &["jp-lines", "paths", "--max-bytes=1", "--max-bytes=1", "$"],
     ];
     for line in lines {
         let mut input = Trickle {

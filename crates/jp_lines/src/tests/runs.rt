@@ -4,6 +4,7 @@ use super::devices::{Endless, Narrow, Trickle};
 use crate::{Defect, Options, RefusedLine, Stop, Wanted, run_lines};
 use jp_check::Profile::Standard;
 use jp_command::{Device, Form};
+use jp_limit::OutputLimit;
 use std::alloc::{AllocError, Global};
 use std::process::Abort;
 
@@ -22,6 +23,10 @@ const PLAIN: Options = Options {
     summary: false,
     reports: None,
     limit: None,
+    output_limit: OutputLimit {
+        nodes: None,
+        bytes: None,
+    },
 };
 
 /// Numbered values of a run that goes on.

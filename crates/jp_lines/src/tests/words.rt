@@ -6,6 +6,7 @@ use crate::task::{Job, Request};
 use crate::words::read_words;
 use clap::error::ErrorKind;
 use jp_command::Form;
+use jp_limit::OutputLimit;
 use std::alloc::{AllocError, Global};
 use std::process::Abort;
 use std::test::Fail;
@@ -20,6 +21,10 @@ const PLAIN: Options = Options {
     summary: false,
     reports: None,
     limit: None,
+    output_limit: OutputLimit {
+        nodes: None,
+        bytes: None,
+    },
 };
 
 /// Whether a job asks for these queries, or for this expression, over these inputs.
@@ -124,7 +129,26 @@ fn flags_ask_for_raw_texts_a_summary_and_few_reports(rt: HostRuntime) -> Result<
         limit: Some(1),
         ..PLAIN
     };
-    let rows: [(&[&str], Form, Options); 5] = [
+    let small = Options {
+        output_limit: OutputLimit {
+            nodes: Some(1),
+            bytes: Some(u64::MAX),
+        },
+        ..PLAIN
+    };
+    let rows: [(&[&str], Form, Options); 6] = [
+        (
+            &[
+                "jp-lines",
+                "eval",
+                "--max-nodes=1",
+                "$",
+                "--max-bytes",
+                "18446744073709551615",
+            ],
+            Form::Values,
+            small,
+        ),
         (&["jp-lines", "eval", "--raw", "$"], Form::RawValues, PLAIN),
         (&["jp-lines", "both", "$", "--raw"], Form::RawBoth, PLAIN),
         (

@@ -15,7 +15,7 @@ type Ended = (usize, Option<EvaluationFault>, u64);
 
 fn ended(alloc: Global, text: &str, query: &str, limit: u64) -> Result<Ended, Fail> {
     let document = Document::read(alloc, text.as_bytes())?;
-    let query = read_query(alloc, query, Profile::Standard)
+    let query = read_query(alloc, query, Profile::Extended)
         .ok()
         .ok_or("refused")?;
     let patterns = Patterns::new(alloc);
@@ -52,6 +52,10 @@ fn steps_made(rt: HostRuntime) -> Result<(), Fail> {
         ("[{}]", "$[?@.b]", 0, 8),
         (r#"["ab"]"#, "$[?match(@,'a.')]", 1, 10),
         (r#"["abc"]"#, "$[?length(@)==3]", 1, 10),
+        (r#"["ab"]"#, "$[?match(@,'a{64}')]", 0, 13),
+        (r#"["ab"]"#, "$[?match(@,'a{65}')]", 0, 15),
+        (r#"["ab"]"#, "$[?search(@,'(a?){4096}')]", 1, 144),
+        (r#"["ab"]"#, "$[?match(@,'.{0,5000}')]", 1, 17),
     ] {
         let alloc = rt.alloc();
         assert_eq!(rt;
@@ -66,6 +70,71 @@ fn steps_made(rt: HostRuntime) -> Result<(), Fail> {
             "{query}"
         );
         assert!(rt; given <= nodes, "{query}");
+    }
+    Ok(())
+}
+
+/// A list of an object whose one member has a name of so many bytes.
+fn named(alloc: Global, bytes: usize, value: &str) -> Result<String, Fail> {
+    let mut text = String::new(alloc);
+    text.push_str("[{")?;
+    push_name(&mut text, bytes)?;
+    text.push_str(value)?;
+    text.push_str("}]")?;
+    Ok(text)
+}
+
+/// An object with a list of two numbers, and one below a member whose name has so many bytes.
+fn named_beside(alloc: Global, bytes: usize) -> Result<String, Fail> {
+    let mut text = String::new(alloc);
+    text.push_str("{\"l\":[1,1],")?;
+    push_name(&mut text, bytes)?;
+    text.push_str("{\"x\":1}}")?;
+    Ok(text)
+}
+
+fn push_name(text: &mut String, bytes: usize) -> Result<(), Fail> {
+    text.push('"')?;
+    for _ in 0..bytes {
+        text.push('n')?;
+    }
+    text.push_str("\":")?;
+    Ok(())
+}
+
+#[test]
+fn names_that_are_compared(rt: HostRuntime) -> Result<(), Fail> {
+    let alloc = rt.alloc();
+    for (bytes, value, query, count) in [
+        (15, "[1]", "$[?count(@[*,*][*,*])==4]", 21),
+        (16, "[1]", "$[?count(@[*,*][*,*])==4]", 23),
+        (160, "[1]", "$[?count(@[*,*][*,*])==4]", 41),
+        (15, "1", "$[?count(distinct(@.*))==1]", 13),
+        (16, "1", "$[?count(distinct(@.*))==1]", 14),
+        (160, "1", "$[?count(distinct(@.*))==1]", 23),
+        (1, "[[1]]", "$[?count(distinct(@..*))==3]", 24),
+        (1, "[[[1]]]", "$[?count(distinct(@..*))==4]", 30),
+    ] {
+        let text = named(alloc, bytes, value)?;
+        assert_eq!(rt;
+            ended(alloc, text.as_str(), query, count)?,
+            (1, None, 0),
+            "{bytes} {query}"
+        );
+    }
+    Ok(())
+}
+
+#[test]
+fn names_in_paths_of_answers(rt: HostRuntime) -> Result<(), Fail> {
+    let alloc = rt.alloc();
+    for (bytes, count) in [(15, 51), (16, 54), (160, 81), (900_000, 168_801)] {
+        let text = named_beside(alloc, bytes)?;
+        assert_eq!(rt;
+            ended(alloc, text.as_str(), "$.l[?@==value($..x)]", count)?,
+            (2, None, 0),
+            "{bytes}"
+        );
     }
     Ok(())
 }

@@ -71,6 +71,24 @@ pub const ROWS: &[Row] = &[
         "$[?(@.a == 1)]",
     ),
     (
+        "$[?(((((@.a == 1",
+        "                ^",
+        "The query ends before a bracket, a parenthesis or a quotation mark is closed.",
+        "$[?(((((@.a == 1)))))]",
+    ),
+    (
+        "$[?(@[?(@[?(@.a == 1",
+        "                    ^",
+        "The query ends before a bracket, a parenthesis or a quotation mark is closed.",
+        "$[?(@[?(@[?(@.a == 1)])])]",
+    ),
+    (
+        "$[?!(((((@[0]",
+        "             ^",
+        "The query ends before a bracket, a parenthesis or a quotation mark is closed.",
+        "$[?!(((((@[0])))))]",
+    ),
+    (
         "$[?@.a == ",
         "          ^",
         "A value belongs here: a number, a text in quotes, true, false, null, a path, or a function call.",

@@ -48,6 +48,42 @@ pub const ROWS: &[Row] = &[
         "$[-1]",
     ),
     (
+        "$[(@.length-2)]",
+        "  ^",
+        "A negative index counts from the end: `[-1]` is the last item.",
+        "$[-2]",
+    ),
+    (
+        "$.a[(@.length -  10)].b",
+        "    ^",
+        "A negative index counts from the end: `[-1]` is the last item.",
+        "$.a[-10].b",
+    ),
+    (
+        "$[0, (@.length-3)]",
+        "     ^",
+        "A negative index counts from the end: `[-1]` is the last item.",
+        "$[0, -3]",
+    ),
+    (
+        "$[(@.length-12345)][7]",
+        "  ^",
+        "A negative index counts from the end: `[-1]` is the last item.",
+        "$[-12345][7]",
+    ),
+    (
+        "$[(@.length-n)]",
+        "  ^",
+        "A negative index counts from the end: `[-1]` is the last item.",
+        "",
+    ),
+    (
+        "$.a[last()].b",
+        "    ^",
+        "A negative index counts from the end: `[-1]` is the last item.",
+        "$.a[-1].b",
+    ),
+    (
         "$[9007199254740992]",
         "  ^",
         "Indexes go from -9007199254740991 to 9007199254740991.",

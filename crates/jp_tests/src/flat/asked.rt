@@ -1,9 +1,46 @@
 //! Documents of which no more is kept than is asked for.
 
-use jp_flat::{AskedFor, flat_asked};
+use jp_flat::{AskedFor, Room};
 use jp_lent::value_text;
 use std::alloc::{AllocError, Global};
 use std::test::Fail;
+
+/// Documents, and what is kept of them where the members `a` and `bc` of the document are asked for.
+const OF_ROOT: [(&str, &str); 14] = [
+    (r#"{"a":1,"b":2}"#, r#"{"a":1}"#),
+    // members left out before, between and behind those that are asked for
+    (
+        r#"{"x":0,"bc":1,"y":[1,{"a":2}],"a":2,"z":null}"#,
+        r#"{"a":2,"bc":1}"#,
+    ),
+    (
+        r#"{"b":{"a":1},"a":{"x":[1,{"y":2}],"b":3}}"#,
+        r#"{"a":{"b":3,"x":[1,{"y":2}]}}"#,
+    ),
+    // none of them
+    (r#"{"b":1,"c":"a"}"#, "{}"),
+    ("{}", "{}"),
+    // each name once, with the value that came last
+    (r#"{"a":1,"b":2,"a":3}"#, r#"{"a":3}"#),
+    (r#"{"b":1,"a":[1],"b":2,"a":{"b":2}}"#, r#"{"a":{"b":2}}"#),
+    // names of one length, and beginnings of the names
+    (r#"{"b":1,"bb":2,"ab":3,"bcd":4,"":5}"#, "{}"),
+    // names with escapes
+    (
+        r#"{"\u0061":1,"\u0062":2,"b\u0063":3}"#,
+        r#"{"a":1,"bc":3}"#,
+    ),
+    // what is left out may have anything inside
+    (
+        r#"{ "b" : [[],{"c":{"d":"\u00e9\n"}}] , "a" : -1 }"#,
+        r#"{"a":-1}"#,
+    ),
+    // no objects
+    (r#"[{"a":1,"b":2}]"#, r#"[{"a":1,"b":2}]"#),
+    ("[]", "[]"),
+    (r#""b""#, r#""b""#),
+    ("7", "7"),
+];
 
 /// Documents, and what is kept of them where of a list's items the members `a` and `bc` are asked for.
 const OF_ITEMS: [(&str, &str); 16] = [
@@ -101,23 +138,51 @@ const WRONG: [&str; 16] = [
     r#"[{"b":1}]]"#,
 ];
 
+/// Objects that are no document, though what is wrong is in no member that is asked for.
+const WRONG_OBJECTS: [&str; 10] = [
+    r#"{"b":1.5,"a":1}"#,
+    r#"{"a":1,"b":[1,]}"#,
+    r#"{"b":"\x","a":1}"#,
+    r#"{"a":1,"b":{"c":["\ud800"]}}"#,
+    r#"{"\x":1,"a":1}"#,
+    r#"{"b":01,"a":1}"#,
+    r#"{"b":1 "a":1}"#,
+    r#"{"a":1,"b":18446744073709551616}"#,
+    r#"{"a":1,"b":2"#,
+    r#"{"a":1,"b":2}}"#,
+];
+
 /// The compact text of what is kept of a document, None where tables do not hold it.
 fn kept_text(
     alloc: Global,
     text: &str,
     asked: &AskedFor<'_>,
 ) -> Result<Option<String>, AllocError> {
-    match flat_asked(alloc, text.as_bytes(), asked) {
-        Some(flat) => Ok(Some(value_text(alloc, flat.value())?)),
-        None => Ok(None),
+    match Room::new(alloc).read_asked(text.as_bytes(), asked) {
+        Ok(flat) => Ok(Some(value_text(alloc, flat.value())?)),
+        Err(_) => Ok(None),
     }
 }
 
+fn of_root(alloc: Global) -> Result<AskedFor<'static>, AllocError> {
+    Ok(AskedFor::OfRoot(vec![in alloc; "a", "bc"]?))
+}
+
 fn of_items(alloc: Global) -> Result<AskedFor<'static>, AllocError> {
-    let mut names = Vec::new(alloc);
-    names.push("a")?;
-    names.push("bc")?;
-    Ok(AskedFor::OfItems(names))
+    Ok(AskedFor::OfItems(vec![in alloc; "a", "bc"]?))
+}
+
+#[test]
+fn members_of_the_root(rt: HostRuntime) -> Result<(), Fail> {
+    let asked = of_root(rt.alloc())?;
+    for (text, wanted) in OF_ROOT {
+        let kept = kept_text(rt.alloc(), text, &asked)?;
+        assert_eq!(rt; kept.as_deref(), Some(wanted), "{text}");
+    }
+    for text in WRONG_OBJECTS {
+        assert_eq!(rt; kept_text(rt.alloc(), text, &asked)?, None, "{text}");
+    }
+    Ok(())
 }
 
 #[test]

@@ -1,7 +1,7 @@
 //! One value of a document, found while the document is read.
 
 use jp_document::Step;
-use jp_flat::{Found, Room, flat_value_at, found_value};
+use jp_flat::{Found, Room};
 use jp_lent::value_text;
 use std::alloc::{AllocError, Global};
 use std::test::Fail;
@@ -13,10 +13,10 @@ fn found_text(
     text: &str,
     location: &[Step<'_>],
 ) -> Result<Option<Option<String>>, AllocError> {
-    let Some(found) = flat_value_at(alloc, text.as_bytes(), location) else {
+    let Ok(found) = Room::new(alloc).read_at(text.as_bytes(), location) else {
         return Ok(None);
     };
-    let Some(value) = found_value(&found) else {
+    let Some(value) = found.value() else {
         return Ok(Some(None));
     };
     Ok(Some(Some(value_text(alloc, value)?)))

@@ -1,8 +1,8 @@
 //! The reader into tables beside `serde_json`.
 
 use jp_document::{Step, parsed_value};
-use jp_flat::{Room, found_value};
-use jp_held::{Document, read_flat, read_into, read_value_at};
+use jp_flat::{AskedFor, Room};
+use jp_held::{Document, Excerpt, Portion, read_flat, read_into, read_portion, read_value_into};
 use jp_lent::value_text;
 use std::alloc::{AllocError, Global};
 use std::test::Fail;
@@ -146,8 +146,12 @@ fn values_at_a_location(rt: HostRuntime) -> Result<(), Fail> {
         r#"{"b":0.5,"b":0,"a":[1]}"#,
         "0",
     ] {
-        let found = read_value_at(rt.alloc(), text.as_bytes(), &location)?;
-        let found = match found_value(&found) {
+        let room = Room::new(rt.alloc());
+        let found = match read_value_into(rt.alloc(), room, text.as_bytes(), &location) {
+            Ok(found) => found,
+            Err((_, fault)) => return Err(fault)?,
+        };
+        let found = match found.value() {
             Some(value) => Some(value_text(rt.alloc(), value)?),
             None => None,
         };
@@ -157,6 +161,75 @@ fn values_at_a_location(rt: HostRuntime) -> Result<(), Fail> {
             None => None,
         };
         assert_eq!(rt; found, wanted, "{text}");
+    }
+    Ok(())
+}
+
+/// What is read of a document where a portion is wanted, as its compact text, and the memory.
+fn portion_of(
+    alloc: Global,
+    room: Room,
+    text: &str,
+    portion: &Portion<'_>,
+) -> Result<(Option<String>, Room), AllocError> {
+    let read = match read_portion(alloc, room, text.as_bytes(), portion) {
+        Ok(read) => read,
+        Err((room, _fault)) => return Ok((None, room)),
+    };
+    let text = match &read {
+        Excerpt::Document(flat) => Some(value_text(alloc, flat.value())?),
+        Excerpt::Value(_, found) => match found.value() {
+            Some(value) => Some(value_text(alloc, value)?),
+            None => Some(String::from_str(alloc, "nothing")?),
+        },
+    };
+    Ok((text, read.into_room()))
+}
+
+/// Documents, and what is read of each into one memory where the value at `$[0]['a']`, the members `a` of
+/// items, or all of it is wanted. The last of equal names stands, and a number that it replaces is looked at
+/// by `serde_json` alone.
+const PORTIONS: [(&str, [Option<&str>; 3]); 6] = [
+    (
+        r#"[{"a":"\u0061","b":[1]},{"b":2}]"#,
+        [
+            Some(r#""a""#),
+            Some(r#"[{"a":"a"},{}]"#),
+            Some(r#"[{"a":"a","b":[1]},{"b":2}]"#),
+        ],
+    ),
+    (r#"[{"a":1}"#, [None, None, None]),
+    (
+        r#"[{"a":0.5,"a":[2]}]"#,
+        [Some("[2]"), Some(r#"[{"a":[2]}]"#), Some(r#"[{"a":[2]}]"#)],
+    ),
+    (r#"[{"a":1,"b":0.5}]"#, [None, None, None]),
+    (
+        r#"{"a":1}"#,
+        [Some("nothing"), Some(r#"{"a":1}"#), Some(r#"{"a":1}"#)],
+    ),
+    (
+        r#"[{"b":7}]"#,
+        [Some("nothing"), Some("[{}]"), Some(r#"[{"b":7}]"#)],
+    ),
+];
+
+#[test]
+fn portions_in_the_memory_of_others(rt: HostRuntime) -> Result<(), Fail> {
+    let alloc = rt.alloc();
+    let location = vec![in alloc; Step::Index(0), Step::Name("a")]?;
+    let portions = [
+        Portion::Value(location),
+        Portion::Members(AskedFor::OfItems(vec![in alloc; "a"]?)),
+        Portion::Whole,
+    ];
+    let mut room = Room::new(alloc);
+    for (text, wanted) in PORTIONS {
+        for (portion, wanted) in portions.iter().zip(wanted) {
+            let (read, given_back) = portion_of(alloc, room, text, portion)?;
+            assert_eq!(rt; read.as_deref(), wanted, "{text}");
+            room = given_back;
+        }
     }
     Ok(())
 }

@@ -1,9 +1,9 @@
 use Rattle.std.proofs.Common.{◌∙◌, Some, ap, length, refl, subst, sym}
-use Rattle.jp_flat.specs.FlatValue.{document_in, lent_flat}
+use Rattle.jp_flat.specs.FlatValue.{lent_flat}
 use Rattle.jp_tree.specs.Views.{query_of}
 use Rattle.jp_c.specs.Asking.{IsAskedOf, text}
 use Rattle.jp_c.specs.Handles.{document_kept, query_kept}
-use Rattle.jp_c.specs.Limit.{Within}
+use Rattle.jp_c.specs.Limit.{Within, output_within}
 use Rattle.jp_c.specs.Private.Askers.{IsAskedOutcome, IsValueOutcome}
 use Rattle.jp_c.proofs.LentAnswers.{told_of_bytes, told_of_value}
 use Rattle.jp_c.proofs.asking.asked_of.Goals as goal
@@ -56,10 +56,11 @@ returns-in-Document c =
       form_is = sym c.form.ensures ∙ c.in-Some.is;
       query_is = ap (λ k. query_kept (Some k)) c.in-Query.is;
     } in
-    let told = told_of_value w.form w.from w.count kept f q c.ask_value-answer.new.self.memory.text
+    let most = output_within w.limit in
+    let told = told_of_value most w.form w.from w.count kept f q c.ask_value-answer.new.self.memory.text
     c.ask_value-answer.result o (lent_flat c.value.result) is answered.ensures.outcome
-    c.ask_value-answer.ensures.answer c.ask_value-answer.ensures.fault in
-    let of_flat = subst (λ d. IsValueOutcome w.form w.from w.count kept d o) c.value.ensures told in
+    c.ask_value-answer.ensures.answer c.ask_value-answer.ensures.within c.ask_value-answer.ensures.fault in
+    let of_flat = subst (λ d. IsValueOutcome w.form w.from w.count kept d most o) c.value.ensures told in
     let same = c.tell-in-Document.ensures.query ∙ answered.ensures.query
     ∙ c.ask_value-answer.ensures.query in
     record {

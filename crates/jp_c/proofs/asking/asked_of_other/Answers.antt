@@ -1,5 +1,6 @@
 use Rattle.std.proofs.Common.{◌∙◌, ap, option_map, sym}
 use Rattle.jp_flat.specs.FlatValue.{document_in}
+use Rattle.jp_c.specs.Limit.{output_within}
 use Rattle.jp_c.proofs.LentAnswers.{asked_of_document}
 use Rattle.jp_c.proofs.asking.asked_of_other.Goals as goal
 
@@ -13,7 +14,8 @@ returns-in-Some c =
         made = x.made;
         is = (
           asked_of_document c.args.wanted.form c.args.wanted.from c.args.wanted.count (option_map (λ b. b.value) c.args.kept.now)
-              (option_map (λ b. b.value) c.args.other.now) (document_in c.in-Some.flat.now) x.o there
+              (option_map (λ b. b.value) c.args.other.now) (document_in c.in-Some.flat.now)
+              (output_within c.args.wanted.limit) x.o there
               x.is.0,
           x.is.1,
         );

@@ -3,13 +3,14 @@ use Rattle.jp_c.specs.Calls.{IsEvalOutcome}
 use Rattle.jp_c.specs.Limit.{Within}
 use Rattle.jp_c.specs.Many.{AnswersEach}
 use Rattle.jp_c.specs.Outcome.{filled}
+use Rattle.jp_c.specs.declared.limit.Limit.{Limit}
 use Rattle.jp_c.proofs.many.jp_eval_many.Goals as goal
 
 pub returns : goal.returns
 returns c =
     let read = c.read-subject in
     let texts = string_bytes c.answer_each-texts.result in
-    let each = λ (limit : ℕ) (form : ℕ) (profile : ℕ) (document : List ℕ). AnswersEach
+    let each = λ (limit : Limit) (form : ℕ) (profile : ℕ) (document : List ℕ). AnswersEach
     (λ query. Within limit (IsEvalOutcome form profile query document)) c.args.queries.now
     c.args.questions.now c.answer_each-texts.new.questions texts
     in

@@ -7,6 +7,7 @@ returns-in-Ok g c = record {
       c.in_ok-run_task.ensures.says c.in-Ok.ensures.bytes c.in-Ok.ensures.works;
   calls = calls-work _ _ _ _ _ c.in_ok-run_task.ensures.calls c.in-Ok.ensures.done;
   kept = tt;
+  handed_on = c.in-Ok.ensures.handed_on;
 }
 
 pub returns-in-Err : goal.returns-in-Err
@@ -15,4 +16,5 @@ returns-in-Err g c = record {
       c.in_ok-run_task.ensures.says c.in-Err.ensures.bytes c.in-Err.ensures.fails;
   calls = calls-fail _ _ _ _ _ c.in_ok-run_task.ensures.calls c.in-Err.ensures.stopped;
   kept = tt;
+  handed_on = tt;
 }

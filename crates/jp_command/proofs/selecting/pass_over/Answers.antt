@@ -1,4 +1,4 @@
-use Rattle.std.proofs.Common.{◌∙◌, ap, drop, rules, sym}
+use Rattle.std.proofs.Common.{◌∙◌, ap, drop, sym}
 use Rattle.jp_evaluate.specs.Lent.{rest_of}
 use Rattle.jp_select.proofs.Stepping.{takes_then}
 use Rattle.jp_command.proofs.Firsts.{drop_more}

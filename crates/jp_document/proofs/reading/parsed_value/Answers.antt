@@ -8,8 +8,8 @@ use Rattle.jp_document.proofs.reading.parsed_value.Goals as goal
 
 pub returns-then-fits-clause-ok : goal.returns-then-fits-clause-ok
 returns-then-fits-clause-ok c =
-    let reads : IsReading c.args.bytes.now (view c.in-Ok.parsed) = search rules in
+    let reads : IsReading c.args.bytes.now (view c.in-Ok-from_str.parsed) = search rules in
     let short : everywhere list_fits (value_of c.in-Ok-json_of.json) ≡ true =
     and-left _ true (sym c.in-Ok-json_of.ensures.fits ∙ c.if-fits.true) in
-    document_by c.args.bytes.now (view c.in-Ok.parsed) (value_of c.in-Ok-json_of.json) reads
+    document_by c.args.bytes.now (view c.in-Ok-from_str.parsed) (value_of c.in-Ok-json_of.json) reads
     c.in-Ok-json_of.ensures.value short

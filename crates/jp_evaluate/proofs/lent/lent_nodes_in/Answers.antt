@@ -1,6 +1,6 @@
 use Rattle.jp_evaluate.proofs.Settling.Begun.{all_to_come}
 use Rattle.jp_evaluate.proofs.lent.lent_nodes_in.Goals as goal
-use Rattle.std.proofs.Common.{ap, subst, ◌∙◌}
+use Rattle.std.proofs.Common.{subst}
 use Rattle.jp_evaluate.specs.Private.Segments.{AreOf}
 
 pub returns-clause-nodes : goal.returns-clause-nodes

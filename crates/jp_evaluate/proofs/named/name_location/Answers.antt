@@ -1,6 +1,4 @@
-use Rattle.std.proofs.Common.{map}
 use Rattle.std.proofs.lemmas.Result.{IfOk-weaker}
-use Rattle.jp_document.specs.Location.{step_of}
 use Rattle.jp_tree.specs.Views.{query_of}
 use Rattle.jp_evaluate.proofs.Paths.Steps.{named_if}
 use Rattle.jp_evaluate.proofs.named.name_location.Goals as goal

@@ -1,11 +1,14 @@
 use Rattle.std.proofs.Common.{inl, inr, refl}
-use Rattle.jp_json.proofs.Misreadings.{told-so, unexpected-cause, too_deep-cause, unfinished-cause}
+use Rattle.jp_json.proofs.Misreadings.{told-so, read-place, front-place, unexpected-cause, too_deep-cause, unfinished-cause}
 use Rattle.jp_json.proofs.Misreadings.{whole-cause, encoding-cause, not-utf8}
 use Rattle.jp_json.proofs.misreading.not_json.Goals as goal
 
 pub returns-in-Unexpected : goal.returns-in-Unexpected
 returns-in-Unexpected c =
-    told-so _ _ _ _ _ c.utf8_front-is_utf8.ensures.text c.told.ensures.offset c.told.ensures.reason
+    told-so _ _ _ _ _
+    (read-place _ _ c.in_ok-reading.reading c.utf8_front-is_utf8.ensures.text c.utf8_front-is_utf8.ensures.utf8
+    c.in_ok-reading.ensures)
+    c.utf8_front-is_utf8.ensures.text c.told.ensures.offset c.told.ensures.reason
     c.told.ensures.line c.told.ensures.column
     (unexpected-cause _ _ c.in_ok-reading.reading _ c.told.result.path c.requires c.utf8_front-is_utf8.ensures.text
     c.in_ok-reading.ensures
@@ -14,7 +17,10 @@ returns-in-Unexpected c =
 
 pub returns-in-TooDeep : goal.returns-in-TooDeep
 returns-in-TooDeep c =
-    told-so _ _ _ _ _ c.utf8_front-is_utf8.ensures.text c.told-in-TooDeep.ensures.offset
+    told-so _ _ _ _ _
+    (read-place _ _ c.in_ok-reading.reading c.utf8_front-is_utf8.ensures.text c.utf8_front-is_utf8.ensures.utf8
+    c.in_ok-reading.ensures)
+    c.utf8_front-is_utf8.ensures.text c.told-in-TooDeep.ensures.offset
     c.told-in-TooDeep.ensures.reason
     c.told-in-TooDeep.ensures.line c.told-in-TooDeep.ensures.column
     (too_deep-cause _ _ c.in_ok-reading.reading c.told-in-TooDeep.result.path c.requires c.utf8_front-is_utf8.ensures.text
@@ -23,7 +29,10 @@ returns-in-TooDeep c =
 
 pub returns-in-Unfinished : goal.returns-in-Unfinished
 returns-in-Unfinished c =
-    told-so _ _ _ _ _ c.utf8_front-is_utf8.ensures.text c.told-in-Unfinished.ensures.offset
+    told-so _ _ _ _ _
+    (read-place _ _ c.in_ok-reading.reading c.utf8_front-is_utf8.ensures.text c.utf8_front-is_utf8.ensures.utf8
+    c.in_ok-reading.ensures)
+    c.utf8_front-is_utf8.ensures.text c.told-in-Unfinished.ensures.offset
     c.told-in-Unfinished.ensures.reason
     c.told-in-Unfinished.ensures.line c.told-in-Unfinished.ensures.column
     (unfinished-cause _ _ c.in_ok-reading.reading _ c.told-in-Unfinished.result.path c.requires c.utf8_front-is_utf8.ensures.text
@@ -34,7 +43,9 @@ returns-in-Unfinished c =
 
 pub returns-in_ok-offset-in-Whole : goal.returns-in_ok-offset-in-Whole
 returns-in_ok-offset-in-Whole c =
-    told-so _ _ _ _ _ c.utf8_front-is_utf8.ensures.text c.told-in-Whole.ensures.offset
+    told-so _ _ _ _ _
+    (c.in_ok-offset-in-Whole.ensures.place (c.utf8_front-is_utf8.ensures.whole.0 c.if-is_utf8-2.true))
+    c.utf8_front-is_utf8.ensures.text c.told-in-Whole.ensures.offset
     c.told-in-Whole.ensures.reason
     c.told-in-Whole.ensures.line c.told-in-Whole.ensures.column
     (whole-cause _ _ c.in_ok-reading.reading _ c.told-in-Whole.result.path c.requires c.utf8_front-is_utf8.ensures.text
@@ -42,11 +53,13 @@ returns-in_ok-offset-in-Whole c =
     c.in_ok-reading.ensures
     c.in-Whole.is
     _
-    c.in_ok-offset-in-Whole.ensures)
+    c.in_ok-offset-in-Whole.ensures.blamed)
 
 pub returns-in-Unfinished-2 : goal.returns-in-Unfinished-2
 returns-in-Unfinished-2 c =
-    told-so _ _ _ _ _ c.utf8_front-is_utf8.ensures.text c.told-in-Unfinished-2.ensures.offset
+    told-so _ _ _ _ _
+    (front-place _ _ c.utf8_front-is_utf8.ensures.text c.utf8_front-is_utf8.ensures.utf8)
+    c.utf8_front-is_utf8.ensures.text c.told-in-Unfinished-2.ensures.offset
     c.told-in-Unfinished-2.ensures.reason
     c.told-in-Unfinished-2.ensures.line c.told-in-Unfinished-2.ensures.column
     (encoding-cause _ _ c.in_ok-reading.reading _ c.told-in-Unfinished-2.result.path c.requires
@@ -58,7 +71,9 @@ returns-in-Unfinished-2 c =
 
 pub returns-in-Whole-2 : goal.returns-in-Whole-2
 returns-in-Whole-2 c =
-    told-so _ _ _ _ _ c.utf8_front-is_utf8.ensures.text c.told-in-Whole-2.ensures.offset
+    told-so _ _ _ _ _
+    (front-place _ _ c.utf8_front-is_utf8.ensures.text c.utf8_front-is_utf8.ensures.utf8)
+    c.utf8_front-is_utf8.ensures.text c.told-in-Whole-2.ensures.offset
     c.told-in-Whole-2.ensures.reason
     c.told-in-Whole-2.ensures.line c.told-in-Whole-2.ensures.column
     (encoding-cause _ _ c.in_ok-reading.reading _ c.told-in-Whole-2.result.path c.requires

@@ -42,18 +42,19 @@ returns-in_err-passed-clause-halted g c =
       halts = inr (one-uncounted c.args.asked.options (map (λ t. t.now) c.args.named.now) g.I.Inputs.opens g.I.Input.Source.remaining
           g.I.Input.Source.has_failed g.I.Input.Source.read_gives g.W.Writer.contents g.W.Writer.has_failed
           g.E.Writer.contents g.E.Writer.has_failed (task_of c.args.asked.task)
-          (left_after c.args.passed.now.tally.refused c.args.asked.options.reports) c.args.name.now
+          c.args.passed.now.tally (left_after c.args.passed.now.tally.refused c.args.asked.options.reports) c.args.name.now
           c.args.inputs.now c.pass_input-ended.new.inputs c.args.output.now c.pass_input-ended.new.output
           c.args.faults.now c.pass_input-ended.new.faults c.pass_input-ended.result.0
           c.pass_input-ended.result.1
           (one-as c.args.asked.options (map (λ t. t.now) c.args.named.now) g.I.Inputs.opens g.I.Input.Source.remaining
           g.I.Input.Source.has_failed g.I.Input.Source.read_gives g.W.Writer.contents g.W.Writer.has_failed
           g.E.Writer.contents g.E.Writer.has_failed (task_of c.args.asked.task)
-          (left_after c.args.passed.now.tally.refused c.args.asked.options.reports) c.args.name.now
+          c.args.passed.now.tally (left_after c.args.passed.now.tally.refused c.args.asked.options.reports) c.args.name.now
           c.args.inputs.now c.pass_input-ended.new.inputs c.args.output.now c.pass_input-ended.new.output
           c.args.faults.now c.pass_input-ended.new.faults c.pass_input-ended.result.0
           c.reports_left.result c.as_str.result.now c.pass_input-ended.result.1
-          c.reports_left.ensures leads c.pass_input-ended.ensures));
+          c.reports_left.ensures leads c.pass_input-ended.ensures)
+          c.in_err-passed.ensures.beyond);
       tally = sym (plus-none c.args.passed.now.tally);
       unread = refl;
     })
@@ -83,21 +84,21 @@ returns-in_err-leave-in-Err-Input-clause-halted g c =
       halts = halts-unread c.args.asked.options (map (λ t. t.now) c.args.named.now) g.I.Inputs.opens g.I.Input.Source.remaining
           g.I.Input.Source.has_failed g.I.Input.Source.read_gives g.W.Writer.contents g.W.Writer.has_failed
           g.E.Writer.contents g.E.Writer.has_failed (task_of c.args.asked.task)
-          (left_after c.args.passed.now.tally.refused c.args.asked.options.reports) c.args.name.now
+          c.args.passed.now.tally (left_after c.args.passed.now.tally.refused c.args.asked.options.reports) c.args.name.now
           c.args.inputs.now c.pass_input-ended.new.inputs c.args.output.now c.pass_input-ended.new.output
           c.args.faults.now c.pass_input-ended.new.faults c.pass_input-ended.result.0
           c.in-Err-Input.why c.in_err-leave-in-Err-Input.field-0.0
           (one-unread c.args.asked.options (map (λ t. t.now) c.args.named.now) g.I.Inputs.opens g.I.Input.Source.remaining
           g.I.Input.Source.has_failed g.I.Input.Source.read_gives g.W.Writer.contents g.W.Writer.has_failed
           g.E.Writer.contents g.E.Writer.has_failed (task_of c.args.asked.task)
-          (left_after c.args.passed.now.tally.refused c.args.asked.options.reports) c.args.name.now
+          c.args.passed.now.tally (left_after c.args.passed.now.tally.refused c.args.asked.options.reports) c.args.name.now
           c.args.inputs.now c.pass_input-ended.new.inputs c.args.output.now c.pass_input-ended.new.output
           c.args.faults.now c.pass_input-ended.new.faults c.pass_input-ended.result.0
           c.in-Err-Input.why
           (one-as c.args.asked.options (map (λ t. t.now) c.args.named.now) g.I.Inputs.opens g.I.Input.Source.remaining
           g.I.Input.Source.has_failed g.I.Input.Source.read_gives g.W.Writer.contents g.W.Writer.has_failed
           g.E.Writer.contents g.E.Writer.has_failed (task_of c.args.asked.task)
-          (left_after c.args.passed.now.tally.refused c.args.asked.options.reports) c.args.name.now
+          c.args.passed.now.tally (left_after c.args.passed.now.tally.refused c.args.asked.options.reports) c.args.name.now
           c.args.inputs.now c.pass_input-ended.new.inputs c.args.output.now c.pass_input-ended.new.output
           c.args.faults.now c.pass_input-ended.new.faults c.pass_input-ended.result.0
           c.reports_left.result c.as_str.result.now (Err (cut.Input c.in-Err-Input.why))
@@ -110,7 +111,7 @@ returns-in_err-leave-in-Err-Input-clause-halted g c =
           c.as_str.result.now c.pass_input-ended.result.0) (c.in-Err-Input.is ∙ ap (λ x. Err x) c.in-Err-Input.field-0-is)
           c.pass_input-ended.ensures)))
           c.in_err-leave-in-Err-Input.ensures.stopped;
-      tally = c.in_ok-passed.ensures;
+      tally = c.in_ok-passed.ensures.both;
       unread = refl;
     }))
 
@@ -123,14 +124,14 @@ returns-in-Ok-clause-passed g c =
       passes = whole (one-whole c.args.asked.options (map (λ t. t.now) c.args.named.now) g.I.Inputs.opens g.I.Input.Source.remaining
           g.I.Input.Source.has_failed g.I.Input.Source.read_gives g.W.Writer.contents g.W.Writer.has_failed
           g.E.Writer.contents g.E.Writer.has_failed (task_of c.args.asked.task)
-          (left_after c.args.passed.now.tally.refused c.args.asked.options.reports) c.args.name.now
+          c.args.passed.now.tally (left_after c.args.passed.now.tally.refused c.args.asked.options.reports) c.args.name.now
           c.args.inputs.now c.pass_input-ended.new.inputs c.args.output.now c.pass_input-ended.new.output
           c.args.faults.now c.pass_input-ended.new.faults c.pass_input-ended.result.0
           c.in-Ok.field-0
           (one-as c.args.asked.options (map (λ t. t.now) c.args.named.now) g.I.Inputs.opens g.I.Input.Source.remaining
           g.I.Input.Source.has_failed g.I.Input.Source.read_gives g.W.Writer.contents g.W.Writer.has_failed
           g.E.Writer.contents g.E.Writer.has_failed (task_of c.args.asked.task)
-          (left_after c.args.passed.now.tally.refused c.args.asked.options.reports) c.args.name.now
+          c.args.passed.now.tally (left_after c.args.passed.now.tally.refused c.args.asked.options.reports) c.args.name.now
           c.args.inputs.now c.pass_input-ended.new.inputs c.args.output.now c.pass_input-ended.new.output
           c.args.faults.now c.pass_input-ended.new.faults c.pass_input-ended.result.0
           c.reports_left.result c.as_str.result.now (Ok c.in-Ok.field-0)
@@ -141,7 +142,7 @@ returns-in-Ok-clause-passed g c =
           g.E.Writer.contents g.E.Writer.has_failed (task_of c.args.asked.task) c.args.name.now c.args.inputs.now c.pass_input-ended.new.inputs c.args.output.now
           c.pass_input-ended.new.output c.args.faults.now c.pass_input-ended.new.faults
           c.as_str.result.now c.pass_input-ended.result.0) c.in-Ok.is c.pass_input-ended.ensures)));
-      tally = c.in_ok-passed.ensures;
+      tally = c.in_ok-passed.ensures.both;
       unread = sym (or-false c.args.passed.now.unread);
     }
 
@@ -157,14 +158,14 @@ returns-in_ok-leave-in-Err-Input-clause-passed g c =
           (one-unread c.args.asked.options (map (λ t. t.now) c.args.named.now) g.I.Inputs.opens g.I.Input.Source.remaining
           g.I.Input.Source.has_failed g.I.Input.Source.read_gives g.W.Writer.contents g.W.Writer.has_failed
           g.E.Writer.contents g.E.Writer.has_failed (task_of c.args.asked.task)
-          (left_after c.args.passed.now.tally.refused c.args.asked.options.reports) c.args.name.now
+          c.args.passed.now.tally (left_after c.args.passed.now.tally.refused c.args.asked.options.reports) c.args.name.now
           c.args.inputs.now c.pass_input-ended.new.inputs c.args.output.now c.pass_input-ended.new.output
           c.args.faults.now c.pass_input-ended.new.faults c.pass_input-ended.result.0
           c.in-Err-Input.why
           (one-as c.args.asked.options (map (λ t. t.now) c.args.named.now) g.I.Inputs.opens g.I.Input.Source.remaining
           g.I.Input.Source.has_failed g.I.Input.Source.read_gives g.W.Writer.contents g.W.Writer.has_failed
           g.E.Writer.contents g.E.Writer.has_failed (task_of c.args.asked.task)
-          (left_after c.args.passed.now.tally.refused c.args.asked.options.reports) c.args.name.now
+          c.args.passed.now.tally (left_after c.args.passed.now.tally.refused c.args.asked.options.reports) c.args.name.now
           c.args.inputs.now c.pass_input-ended.new.inputs c.args.output.now c.pass_input-ended.new.output
           c.args.faults.now c.pass_input-ended.new.faults c.pass_input-ended.result.0
           c.reports_left.result c.as_str.result.now (Err (cut.Input c.in-Err-Input.why))
@@ -177,6 +178,6 @@ returns-in_ok-leave-in-Err-Input-clause-passed g c =
           c.as_str.result.now c.pass_input-ended.result.0) (c.in-Err-Input.is ∙ ap (λ x. Err x) c.in-Err-Input.field-0-is)
           c.pass_input-ended.ensures)))
           c.in_ok-leave-in-Err-Input.ensures.told;
-      tally = c.in_ok-passed.ensures;
+      tally = c.in_ok-passed.ensures.both;
       unread = sym (or-true c.args.passed.now.unread);
     }

@@ -11,7 +11,7 @@ returns-in-Ok g c = λ words asks.
 pub returns-in-Err : goal.returns-in-Err
 returns-in-Err g c = λ words asks.
     ends-unbegun g.I.Inputs.opens g.I.Input.Source.remaining g.I.Input.Source.has_failed
-    g.I.Input.Source.read_gives g.W.Writer.contents g.W.Writer.has_failed g.W.Writer.write_takes
+    g.I.Input.Source.read_gives g.W.Writer.contents g.W.Writer.has_failed g.W.Writer.write_takes g.W.Output.holds_back
     g.E.Writer.contents g.E.Writer.has_failed (job_of c.args.job.now) c.args.inputs.now c.run_job.new.inputs
     c.args.output.now c.run_job.new.output c.args.faults.now c.run_job.new.faults
     g.W.Writer.hung_up words c.in-Err.why c.status_of_unbegun.result c.tell_unbegun.new.faults asks

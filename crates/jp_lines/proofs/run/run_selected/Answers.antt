@@ -9,8 +9,8 @@ use Rattle.jp_lines.proofs.Asking.{goes-asked}
 use Rattle.jp_lines.proofs.Ending.{err-so, runs-stop_unread}
 use Rattle.jp_lines.proofs.run.run_selected.Goals as goal
 
-pub returns-in_err-location : goal.returns-in_err-location
-returns-in_err-location g c = λ profile request asked.
+pub returns-in_err-plan : goal.returns-in_err-plan
+returns-in_err-plan g c = λ profile request asked.
     let task = Select c.args.wanted c.args.extent (query_of c.args.query.now.query) in
     err-so c.from_residual.result (stop.Run fault.NoMemory)
     (RunsAsked profile c.args.options g.R.Source.remaining g.R.Source.has_failed

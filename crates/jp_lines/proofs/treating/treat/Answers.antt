@@ -3,10 +3,16 @@ use Rattle.jp_command.specs.declared.fault.Fault.TheVariants as fault
 use Rattle.jp_lines.specs.Private.Passing.{StopsEnding}
 use Rattle.jp_lines.specs.Views.{task_of}
 use Rattle.jp_lines.specs.declared.stop.Stop.TheVariants as stop
-use Rattle.jp_lines.proofs.LineLemmas.{err-is, stops-answering, stops-counting_nodes}
+use Rattle.jp_lines.proofs.LineLemmas.{defect-of_bytes, err-is, stops-answering, stops-counting_nodes}
 use Rattle.jp_lines.proofs.LineLemmas.{stops-counting_refusals, stops-flushing, stops-flushing_blank}
 use Rattle.jp_lines.proofs.LineLemmas.{stops-refusing, treats-answered, treats-blank, treats-refused}
 use Rattle.jp_lines.proofs.treating.treat.Goals as goal
+
+pub refuse-requires : goal.refuse-requires
+refuse-requires g c =
+    let answers = rw c.in-Refused.is at c.in_ok-answer.ensures.answers in
+    defect-of_bytes c.args.asked.options (task_of c.args.asked.task) c.args.number c.args.kept.now
+    c.in-Refused.defect answers.0
 
 pub returns-in_err-answer-clause-stopped : goal.returns-in_err-answer-clause-stopped
 returns-in_err-answer-clause-stopped g c =
@@ -96,7 +102,7 @@ returns-in_ok-after-in-Written-clause-treated g c = λ line is.
     c.args.number c.args.kept.now line is c.args.before c.in-Written.selected
     c.in_ok-after-in-Written.after _ c.answer.new.output _ _
     answers c.flush-in-Written.ensures.kept c.in_ok-flush-in-Written.ensures.works
-    (rw (c.of_document.ensures answers.output) at c.in_ok-after-in-Written.ensures)
+    (rw (c.of_document.ensures answers.output) at c.in_ok-after-in-Written.ensures.both)
 
 pub returns-in_ok-refuse-in-Refused-clause-treated : goal.returns-in_ok-refuse-in-Refused-clause-treated
 returns-in_ok-refuse-in-Refused-clause-treated g c = λ line is.
@@ -107,4 +113,4 @@ returns-in_ok-refuse-in-Refused-clause-treated g c = λ line is.
     c.args.number c.args.kept.now line is c.args.before c.in-Refused.defect told.0
     c.in_ok-after-in-Refused.after _ _ _ _ answers.0 told.1 answers.1
     told.2 c.in_ok-refuse-in-Refused.ensures.going
-    (rw (c.of_refusal.ensures told.0) at c.in_ok-after-in-Refused.ensures)
+    (rw (c.of_refusal.ensures told.0) at c.in_ok-after-in-Refused.ensures.both)

@@ -1,4 +1,4 @@
-use Rattle.std.proofs.Common.{◌≡◌, ◌∷◌, Some, ap, sym, ◌∙◌}
+use Rattle.std.proofs.Common.{◌∷◌, Some, ap, sym, ◌∙◌}
 use Rattle.jp_document.specs.Node.{node_at, root_of}
 use Rattle.jp_tree.specs.declared.tree.Query.{out-Query}
 use Rattle.jp_evaluate.specs.Private.Settled.{only_node}

@@ -1,5 +1,5 @@
 use Rattle.std.proofs.Common.{◌≡◌, ◌∷◌, ◌∙◌, ap, refl, rules}
-use Rattle.jp_evaluate.specs.Lent.{given_node, rest_of}
+use Rattle.jp_evaluate.specs.Lent.{rest_of}
 use Rattle.jp_evaluate.specs.Private.Walk.{reached_node}
 use Rattle.jp_evaluate.specs.declared.lent.LentNodes.{LentNodes}
 use Rattle.jp_evaluate.proofs.Walks.Given.{given-node}

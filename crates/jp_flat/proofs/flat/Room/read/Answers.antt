@@ -1,7 +1,7 @@
 use Rattle.std.proofs.Common.{◌≡◌, IsUtf8, rules, subst, ◌∙◌}
 use Rattle.jp_flat.specs.Flat.{shown}
 use Rattle.jp_flat.specs.Private.Reading.{ReadsFlatText}
-use Rattle.jp_flat.proofs.Documents.{flat-sound}
+use Rattle.jp_flat.proofs.Documents.{flat-document, flat-sound}
 use Rattle.jp_flat.proofs.flat.Room.read.Goals as goal
 
 pub invariant_of-result : goal.invariant_of-result
@@ -15,3 +15,13 @@ invariant_of-result c =
       sound = flat-sound c.args.bytes.now t i both.1
           (subst (λ s. ReadsFlatText s t i) source c.in-Some.ensures);
     }
+
+pub returns-in-Some : goal.returns-in-Some
+returns-in-Some c =
+    let t = shown c.root-read.new.tables in
+    let i = c.in-Some.root in
+    let both : (c.in-Ok.text.now ≡ c.args.bytes.now) × IsUtf8 c.args.bytes.now = search rules in
+    let source : c.reserve.new.self.text.now ≡ c.args.bytes.now =
+    c.reserve.ensures.text ∙ c.of-tables.ensures.source ∙ both.0 in
+    flat-document c.args.bytes.now t i both.1
+    (subst (λ s. ReadsFlatText s t i) source c.in-Some.ensures)

@@ -1,0 +1,17 @@
+pub mod NormalForm
+pub mod OutOfRange
+pub mod Begun
+pub mod Moved
+pub mod OneValue
+pub mod Order
+pub mod Powers
+pub mod Rows
+pub mod Runs
+pub mod Same
+pub mod Tokens
+pub mod Total
+pub mod Unique
+pub mod Written
+pub mod ReadBack
+pub mod Told
+pub mod WholeNumbers

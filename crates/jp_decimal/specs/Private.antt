@@ -1,0 +1,2 @@
+-- The definitions that private functions alone cite.
+pub mod Runs

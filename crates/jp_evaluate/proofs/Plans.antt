@@ -1,0 +1,60 @@
+-- What is read of a document for a query has the nodes that the query selects: for the calls of `Plan`.
+use Rattle.std.proofs.Common.{ℕ, List, ap, map, option_to_list, refl, subst, sym, ◌∙◌}
+use Rattle.jp_document.specs.Document.{IsDocument}
+use Rattle.jp_document.specs.Location.{step_of}
+use Rattle.jp_document.specs.Node.{node_at}
+use Rattle.jp_flat.specs.Asked.{IsReadFor}
+use Rattle.jp_flat.specs.FlatValue.{document_in}
+use Rattle.jp_flat.specs.declared.asked.AskedFor.{AskedFor}
+use Rattle.jp_flat.specs.declared.flat.Flat.{Flat}
+use Rattle.jp_held.specs.Portions.{IsExcerpt}
+use Rattle.jp_held.specs.declared.portion.Excerpt.{Excerpt}
+use Rattle.jp_held.specs.declared.portion.Excerpt.TheVariants as read
+use Rattle.jp_held.specs.declared.portion.Portion.{Portion}
+use Rattle.jp_held.specs.declared.portion.Portion.TheVariants.{Value, Members, Whole}
+use Rattle.jp_tree.specs.Tree.{QueryTree}
+use Rattle.jp_evaluate.specs.Named.{NamesLocation}
+use Rattle.jp_evaluate.specs.Plan.{HoldsPortion, IsReadToAnswer, Serves}
+
+pub answers-portion : (q : QueryTree) (p : Portion) (bytes : List ℕ) (e : Excerpt) → Serves q p
+    → IsExcerpt p bytes e → IsReadToAnswer q bytes e
+answers-portion q (Value l) bytes (read.Value k found) names is =
+    let at = is.1 in
+    let names_it : NamesLocation q (map step_of k.now) =
+    subst (λ ks. NamesLocation q (map step_of ks)) (sym is.0) names in
+    record {
+      document = at.document;
+      is = at.is;
+      same = ap (λ o. map (node_at (map step_of k.now)) (option_to_list o)) (sym at.at)
+          ∙ sym (names_it at.document);
+    }
+answers-portion q (Members asked) bytes (read.Document f) no_more is = record {
+  document = is.document;
+  is = is.is;
+  same = no_more is.document (document_in f) is.kept;
+}
+answers-portion q Whole bytes (read.Document f) serves is =
+    record { document = document_in f; is = is; same = refl }
+answers-portion q (Value l) bytes (read.Document f) names is = absurd is
+answers-portion q (Members asked) bytes (read.Value k found) no_more is = absurd is
+answers-portion q Whole bytes (read.Value k found) serves is = absurd is
+
+-- what is kept of a document for what is asked of it
+pub holds-members : (asked : AskedFor) (bytes : List ℕ) (f : Flat) → IsReadFor asked bytes f
+    → HoldsPortion (Members asked) bytes f
+holds-members asked bytes f is = record {
+  document = is.document;
+  is = is.is;
+  nodes = λ q serves. serves is.document (document_in f) is.kept;
+  truth = λ e serves. serves is.document (document_in f) is.kept;
+}
+
+-- all of a document
+pub holds-whole : (p : Portion) (bytes : List ℕ) (f : Flat) → IsDocument bytes (document_in f)
+    → HoldsPortion p bytes f
+holds-whole p bytes f is = record {
+  document = document_in f;
+  is = is;
+  nodes = λ q serves. refl;
+  truth = λ e serves. refl;
+}

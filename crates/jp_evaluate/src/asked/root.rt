@@ -1,0 +1,108 @@
+//! The members that queries, and the expression of a filter, ask for of the document itself.
+
+ghost use Rattle.std.specs.Prelude.{All, IfOk, IfSome, map};
+ghost use Rattle.jp_tree.specs.Views.{expr_of, query_of};
+ghost use Rattle.jp_evaluate.specs.Asked.{AsksNoMore, TestsNoMore};
+ghost use Rattle.jp_evaluate.specs.Private.Asks.{AskedOf, Collects, asks_each, asks_expr, asks_root};
+
+use crate::asked::filters::push_expr;
+use crate::asked::members::push_members;
+use jp_check::{Checked, CheckedFilter};
+use jp_flat::AskedFor;
+use jp_tree::Expr;
+use std::alloc::{AllocError, Global};
+
+/// What several queries together ask of a document: over each document each of them selects the same
+/// nodes in what is kept of it. None where one of them is not told to ask only for members of the
+/// document itself. The only error is that memory ran out.
+pub(crate) fn asked_by_all<'q>(
+    alloc: Global,
+    queries: &'q [Checked],
+) -> Result<Option<AskedFor<'q>>, AllocError>
+    ensures { IfOk result (λ o. IfSome o
+        (λ asked. All (λ q. AsksNoMore q asked) (map (λ c. query_of c.query) queries.now))) }
+{
+    match names_of_each(alloc, queries)? {
+        Some(names) => Ok(Some(AskedFor::OfRoot(names))),
+        None => Ok(None),
+    }
+}
+
+/// What an expression asks of a document that is its root and its current node: it is as true of what
+/// is kept of each. None where one of its queries is not told to ask only for members of the current
+/// node. The only error is that memory ran out.
+pub(crate) fn asked_by_test<'q>(
+    alloc: Global,
+    filter: &'q CheckedFilter,
+) -> Result<Option<AskedFor<'q>>, AllocError>
+    ensures { IfOk result (λ o. IfSome o (TestsNoMore (expr_of filter.now.expr))) }
+{
+    match names_of_test(alloc, filter.expr())? {
+        Some(names) => Ok(Some(AskedFor::OfRoot(names))),
+        None => Ok(None),
+    }
+}
+
+/// The names of all members that a query asks for of the document itself, None where it is not told.
+pub(crate) fn names_of_root<'q>(
+    alloc: Global,
+    query: &'q Checked,
+) -> Result<Option<Vec<&'q str>>, AllocError>
+    ensures { IfOk result (λ o. IfSome o
+        (λ names. AskedOf names.items (λ p. asks_root p (query_of query.now.query)))) }
+{
+    let mut names = Vec::new(alloc);
+    if push_root(query, &mut names)? {
+        Ok(Some(names))
+    } else {
+        Ok(None)
+    }
+}
+
+/// The names of all members that the expression asks for, None where it is not told.
+fn names_of_test<'q>(alloc: Global, test: &'q Expr) -> Result<Option<Vec<&'q str>>, AllocError>
+    ensures { IfOk result (λ o. IfSome o
+        (λ names. AskedOf names.items (λ p. asks_expr p (expr_of test.now)))) }
+{
+    let mut names = Vec::new(alloc);
+    if push_expr(test, &mut names)? {
+        Ok(Some(names))
+    } else {
+        Ok(None)
+    }
+}
+
+/// The names of all members that the queries ask for, None where it is not told.
+fn names_of_each<'q>(
+    alloc: Global,
+    queries: &'q [Checked],
+) -> Result<Option<Vec<&'q str>>, AllocError>
+    ensures { IfOk result (λ o. IfSome o (λ names. AskedOf names.items
+        (λ p. asks_each p (map (λ c. query_of c.query) queries.now)))) }
+{
+    let mut names = Vec::new(alloc);
+    if push_each(queries, &mut names)? {
+        Ok(Some(names))
+    } else {
+        Ok(None)
+    }
+}
+
+fn push_each<'q>(queries: &'q [Checked], names: &mut Vec<&'q str>) -> Result<bool, AllocError>
+    ensures { IfOk result (Collects names.old.items names.new.items
+        (λ p. asks_each p (map (λ c. query_of c.query) queries.now))) }
+{
+    for query in queries {
+        if !push_root(query, names)? {
+            return Ok(false);
+        }
+    }
+    Ok(true)
+}
+
+fn push_root<'q>(query: &'q Checked, names: &mut Vec<&'q str>) -> Result<bool, AllocError>
+    ensures { IfOk result (Collects names.old.items names.new.items
+        (λ p. asks_root p (query_of query.now.query))) }
+{
+    push_members(&query.query().segments, names)
+}

@@ -1,0 +1,144 @@
+//! What is read of documents for queries, or for an expression, which is found out once for all of them.
+
+ghost use Rattle.std.specs.Prelude.{◌≡◌, All, IfErr, IfOk, map};
+ghost use Rattle.jp_document.specs.Document.{IsDocumentFault};
+ghost use Rattle.jp_tree.specs.Tree.{QueryTree};
+ghost use Rattle.jp_tree.specs.Views.{expr_of, query_of};
+ghost use Rattle.jp_evaluate.specs.Named.{location_named};
+ghost use Rattle.jp_evaluate.specs.Plan.{HoldsPortion, IsReadToAnswer, Serves, ServesTest, location_in};
+ghost use Rattle.jp_evaluate.specs.Private.Asks.{portion_asked};
+
+use crate::asked::{asked_by, asked_by_all, asked_by_test};
+use crate::named::named_location;
+use jp_check::{Checked, CheckedFilter};
+use jp_document::DocumentFault;
+use jp_flat::{AskedFor, Flat, Room};
+use jp_held::{Excerpt, Portion, read_asked, read_into, read_portion};
+use std::alloc::{AllocError, Global};
+
+/// How much of a document is read for queries, or for the expression of a filter: the value at the
+/// location that a query names, the members that are asked for, or the whole document.
+#[derive(Drop)]
+pub struct Plan<'q> {
+    portion: Portion<'q>,
+}
+
+impl<'q> Plan<'q> {
+    /// The plan for a query. The only error is that memory ran out.
+    pub fn of(alloc: Global, query: &'q Checked) -> Result<Plan<'q>, AllocError>
+        ensures serves { IfOk result (λ p. Serves (query_of query.now.query) p.portion) }
+        ensures named { IfOk result
+            (λ p. location_in p.portion ≡ location_named (query_of query.now.query)) }
+    {
+        let portion = portion_for(alloc, query)?;
+        Ok(Plan { portion })
+    }
+
+    /// The plan for several queries, which are answered together. The only error is that memory ran out.
+    pub fn of_all(alloc: Global, queries: &'q [Checked]) -> Result<Plan<'q>, AllocError>
+        ensures { IfOk result (λ p. All (λ q. Serves q p.portion)
+            (map (λ c. query_of c.query) queries.now)) }
+    {
+        let asked = asked_by_all(alloc, queries)?;
+        Ok(Plan {
+            portion: members_or_whole(asked),
+        })
+    }
+
+    /// The plan for an expression that is tested where a document is its root and its current node. The
+    /// only error is that memory ran out.
+    pub fn of_test(alloc: Global, filter: &'q CheckedFilter) -> Result<Plan<'q>, AllocError>
+        ensures { IfOk result (λ p. ServesTest (expr_of filter.now.expr) p.portion) }
+    {
+        let asked = asked_by_test(alloc, filter)?;
+        Ok(Plan {
+            portion: members_or_whole(asked),
+        })
+    }
+
+    /// How much of a document is read.
+    pub fn portion(&self) -> &Portion<'q>
+        ensures { result.now ≡ self.now.portion }
+    {
+        &self.portion
+    }
+
+    /// So much of the document that these bytes are as the query's nodes come from, else what is wrong
+    /// with the bytes. `NoMemory` says nothing of them.
+    pub fn read<'p, 't>(
+        &'p self,
+        alloc: Global,
+        bytes: &'t [u8],
+    ) -> Result<Excerpt<'p, 'q, 't>, DocumentFault>
+        ensures ok { IfOk result (λ read. (q : QueryTree) → Serves q self.now.portion
+            → IsReadToAnswer q bytes.now read) }
+        ensures fault { IfErr result (IsDocumentFault bytes.now) }
+    {
+        match self.read_into(alloc, Room::new(alloc), bytes) {
+            Ok(read) => Ok(read),
+            Err((_, fault)) => Err(fault),
+        }
+    }
+
+    /// `read` in the memory of other documents, which an `Err` gives back.
+    pub fn read_into<'p, 't>(
+        &'p self,
+        alloc: Global,
+        room: Room,
+        bytes: &'t [u8],
+    ) -> Result<Excerpt<'p, 'q, 't>, (Room, DocumentFault)>
+        ensures ok { IfOk result (λ read. (q : QueryTree) → Serves q self.now.portion
+            → IsReadToAnswer q bytes.now read) }
+        ensures fault { IfErr result (λ e. IsDocumentFault bytes.now e.1) }
+    {
+        let read = read_portion(alloc, room, bytes, &self.portion)?;
+        Ok(read)
+    }
+
+    /// The document that these bytes are, of which what the plan does not ask for may be left out, in the
+    /// memory of other documents; else that memory, and what is wrong with the bytes. `NoMemory` says
+    /// nothing of them.
+    pub fn read_document<'t>(
+        &self,
+        alloc: Global,
+        room: Room,
+        bytes: &'t [u8],
+    ) -> Result<Flat<'t>, (Room, DocumentFault)>
+        ensures ok { IfOk result (HoldsPortion self.now.portion bytes.now) }
+        ensures fault { IfErr result (λ e. IsDocumentFault bytes.now e.1) }
+    {
+        match &self.portion {
+            Portion::Members(asked) => {
+                let flat = read_asked(alloc, room, bytes, asked)?;
+                Ok(flat)
+            }
+            Portion::Value(_) | Portion::Whole => {
+                let flat = read_into(alloc, room, bytes)?;
+                Ok(flat)
+            }
+        }
+    }
+}
+
+/// The members that are asked for, or the whole document where that is not told.
+fn members_or_whole<'q>(asked: Option<AskedFor<'q>>) -> Portion<'q>
+    ensures { result ≡ portion_asked asked.entry }
+{
+    match asked {
+        Some(asked) => Portion::Members(asked),
+        None => Portion::Whole,
+    }
+}
+
+/// How much of a document a query is answered from.
+fn portion_for<'q>(alloc: Global, query: &'q Checked) -> Result<Portion<'q>, AllocError>
+    ensures serves { IfOk result (Serves (query_of query.now.query)) }
+    ensures named { IfOk result
+        (λ p. location_in p ≡ location_named (query_of query.now.query)) }
+{
+    if let Some(location) = named_location(alloc, query)? {
+        return Ok(Portion::Value(location));
+    }
+    let asked = asked_by(alloc, query)?;
+    Ok(members_or_whole(asked))
+}

@@ -1,0 +1,29 @@
+use Rattle.std.proofs.Common.{◌≡◌, ◌∙◌, IsUtf8, refl, rules, subst}
+use Rattle.jp_flat.specs.Flat.{shown}
+use Rattle.jp_flat.specs.Private.Kept.{KeepsFlatText}
+use Rattle.jp_flat.proofs.KeptDocuments.{kept-document, kept-sound}
+use Rattle.jp_flat.proofs.flat.Room.read_asked.Goals as goal
+
+pub invariant_of-result : goal.invariant_of-result
+invariant_of-result c =
+    let asked = c.args.asked.now in
+    let t = shown c.kept_root-read.new.tables in
+    let i = c.in-Some.root in
+    let both : (c.in-Ok.text.now ≡ c.args.bytes.now) × IsUtf8 c.args.bytes.now = search rules in
+    let source : c.reserve.new.self.text.now ≡ c.args.bytes.now =
+    c.reserve.ensures.text ∙ c.of-tables.ensures.source ∙ both.0 in
+    record {
+      sound = kept-sound asked c.args.bytes.now t i both.1
+          (subst (λ s. KeepsFlatText asked s t i) source c.in-Some.ensures);
+    }
+
+pub returns-in-Some : goal.returns-in-Some
+returns-in-Some c =
+    let asked = c.args.asked.now in
+    let t = shown c.kept_root-read.new.tables in
+    let i = c.in-Some.root in
+    let both : (c.in-Ok.text.now ≡ c.args.bytes.now) × IsUtf8 c.args.bytes.now = search rules in
+    let source : c.reserve.new.self.text.now ≡ c.args.bytes.now =
+    c.reserve.ensures.text ∙ c.of-tables.ensures.source ∙ both.0 in
+    kept-document asked c.args.bytes.now _ t both.1 refl
+    (subst (λ s. KeepsFlatText asked s t i) source c.in-Some.ensures)

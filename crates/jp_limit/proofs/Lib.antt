@@ -1,0 +1,2 @@
+-- The files of lemmas. `pub` are those that proofs of other crates may name.
+pub mod Limits
