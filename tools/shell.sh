@@ -1,4 +1,5 @@
 # What the scripts for tests share: whether something is installed, and the line for what is left out without it.
+#
 # shellcheck shell=bash
 
 has() {
