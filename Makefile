@@ -48,7 +48,7 @@ fmt: ## the code in Rattle, as rt fmt writes it
 lint: ## shellcheck, flake8, clang-format and node on all else; names and heads of the crates
 	.ci/lint
 	.ci/words
-house: ## docs/HOUSE.md and the picture in README.md, from the files
+house: ## docs/HOUSE.md, docs/OUTER.md, the pages of the crates and the picture in README.md, from the files
 	.ci/house --write
 package: ## the Debian package, in packaging/out
 	bin/package
