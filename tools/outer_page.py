@@ -15,8 +15,8 @@ ROOT = pathlib.Path(os.path.realpath(__file__)).parent.parent
 FOLDERS = {
     "bindings": "jp for other languages. `build` makes the library for C, on which Python and Rust stand. In `numbers.json`"
     " are the numbers and names of statuses and refusals, from which `.ci/numbers --write` writes those of each language.",
-    "bindings/c": "What is compiled beside the proved calls. `jp.h`, `stack.c` and `cursor.c` are trusted; the others are an"
-    " example and tests.",
+    "bindings/c": "What is compiled beside the proved calls, or calls them. `stack.c` and `cursor.c` are trusted; what `jp.h`"
+    " says of the calls is tested by the others.",
     "bindings/node": "The package for Node, over the module that `page/build` makes. The page takes those of its files that"
     " need nothing of Node.",
     "bindings/python": "The package for Python, over `libjp.so`. Its callers see what `__init__.py` names; what begins with"
