@@ -4,6 +4,9 @@
 Python scripts import it. A script of the shell asks it for one thing:
 
     tools/jp_tools.py proved CRATE    the proved program of a crate
+    tools/jp_tools.py refuse FILE..   nothing, and the status 1 where one was built without proofs
+    tools/jp_tools.py is-unproved FILE
+                                      nothing, and the status 0 where it was built without proofs, or else 1
     tools/jp_tools.py kit             the folder of the kit
 """
 import os
@@ -13,7 +16,7 @@ import subprocess
 import sys
 
 ROOT = os.path.dirname(os.path.dirname(os.path.realpath(__file__)))
-# A program that is built without proofs has these words inside, whatever it is called and wherever it is put.
+# What is built without proofs has these words inside, whatever it is called and wherever it is put.
 MARK = b"jp: built without its proofs, of "
 HOW_TO_PROVE = "bin/build {} or make prove proves it"
 
@@ -107,6 +110,20 @@ def is_unproved(path):
     return MARK in contents(path)
 
 
+def shown_as(path):
+    """A path as it is told: below the repository from there on."""
+    path = os.path.abspath(path)
+    return os.path.relpath(path, ROOT) if path.startswith(ROOT + os.sep) else path
+
+
+def refuse_unproved(paths):
+    """Ends the script where a library or another file was built without proofs."""
+    for path in paths:
+        if is_unproved(path):
+            maker = "page/build" if path.endswith((".wasm", ".html")) else "bindings/build"
+            stop(f"{shown_as(path)} was built without its proofs: {maker} makes the proved one")
+
+
 def proved(name):
     """The proved program of a crate; ends the script where there is none."""
     path = path_of_proved(name)
@@ -136,6 +153,10 @@ def is_proved_wanted():
 def main(words):
     if len(words) == 2 and words[0] == "proved":
         print(proved(words[1]))
+    elif words[:1] == ["refuse"]:
+        refuse_unproved(words[1:])
+    elif len(words) == 2 and words[0] == "is-unproved":
+        sys.exit(not is_unproved(words[1]))
     elif words == ["kit"]:
         print(kit())
     else:

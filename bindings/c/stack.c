@@ -4,7 +4,8 @@
  *
  * What a call needs is a base and so many bytes for each level of what it reads: of brackets and
  * parentheses in the query, of lists and objects in the document, of groups in a pattern. Levels are
- * counted only where less is left than any call needs. bindings/c/narrow.c measures what calls use.
+ * counted only where less is left than any call needs. bindings/c/narrow.c measures what calls use, of the
+ * proved library and of the one that is built without proofs, whose calls have the same names.
  *
  * Where the stack is not the thread's own, as that of a coroutine, its room is not known, and the
  * caller owes JP_STACK bytes.

@@ -1,7 +1,8 @@
 """Builds the wheel, with nothing but Python's own library (PEP 517, and PEP 660 for `pip install -e`).
 
 The wheel holds the package as it stands, with the shared object that `bindings/build` puts into it; or, where it is to
-be edited, the path of this folder. What it says of itself is in pyproject.toml.
+be edited, the path of this folder. Where there is no shared object, one is made without proofs. What the package says
+of itself is in pyproject.toml; over a shared object without proofs its version ends with `+unproved`.
 """
 import ast
 import base64
@@ -9,6 +10,7 @@ import hashlib
 import io
 import os
 import re
+import subprocess
 import sysconfig
 import tarfile
 import zipfile
@@ -16,14 +18,26 @@ import zipfile
 NAME = "jsonpath_jp"
 HERE = os.path.dirname(os.path.abspath(__file__))
 LIBRARY = "libjp.so"
+# What a shared object without proofs has inside.
+MARK = b"jp: built without its proofs, of "
 SOURCES = ["pyproject.toml", "backend.py", "README.md"]
 LICENCES = ["LICENSE-APACHE", "LICENSE-MIT"]
+
+
+def _make_library():
+    """Makes the shared object without proofs, in two minutes, as one line on standard error says."""
+    build = os.path.join(HERE, "..", "build")
+    if not os.path.exists(build):
+        raise SystemExit(f"{NAME}/{LIBRARY} is missing: run bindings/build first")
+    how = {"stdin": subprocess.DEVNULL, "stdout": subprocess.DEVNULL, "check": False}
+    if subprocess.run([build, "--unproved"], **how).returncode != 0:
+        raise SystemExit(f"{NAME}/{LIBRARY} is missing, and bindings/build --unproved makes none")
 
 
 def _package_files():
     folder = os.path.join(HERE, NAME)
     if not os.path.exists(os.path.join(folder, LIBRARY)):
-        raise SystemExit(f"{NAME}/{LIBRARY} is missing: run bindings/build first")
+        _make_library()
     names = sorted(os.listdir(folder))
     return [f"{NAME}/{name}" for name in names if os.path.isfile(os.path.join(folder, name))]
 
@@ -48,7 +62,10 @@ def _said(name):
     return ast.literal_eval(re.search(rf'^{name} = (".*?"|\[.*?\])$', PROJECT, re.MULTILINE | re.DOTALL)[1])
 
 
-VERSION = _said("version")
+def _version():
+    library = os.path.join(NAME, LIBRARY)
+    is_unproved = os.path.exists(os.path.join(HERE, library)) and MARK in _contents(library)
+    return _said("version") + ("+unproved" if is_unproved else "")
 
 
 def _metadata():
@@ -57,7 +74,7 @@ def _metadata():
     lines = [
         "Metadata-Version: 2.1",
         f"Name: {_said('name')}",
-        f"Version: {VERSION}",
+        f"Version: {_version()}",
         f"Summary: {_said('description')}",
         f"Author: {author}",
         f"License: {licence}",
@@ -81,13 +98,13 @@ def _record_line(path, data):
 
 
 def _write_wheel(wheel_directory, files):
-    info = f"{NAME}-{VERSION}.dist-info"
+    info = f"{NAME}-{_version()}.dist-info"
     wheel = f"Wheel-Version: 1.0\nGenerator: {NAME}\nRoot-Is-Purelib: false\nTag: {_tag()}\n"
     files = [*files, (f"{info}/METADATA", _metadata()), (f"{info}/WHEEL", wheel.encode())]
     files += [(f"{info}/{name}", text) for name, text in _licences()]
     record = "".join(_record_line(path, data) for path, data in files)
     files.append((f"{info}/RECORD", f"{record}{info}/RECORD,,\n".encode()))
-    name = f"{NAME}-{VERSION}-{_tag()}.whl"
+    name = f"{NAME}-{_version()}-{_tag()}.whl"
     with zipfile.ZipFile(os.path.join(wheel_directory, name), "w", zipfile.ZIP_DEFLATED) as archive:
         for path, data in files:
             archive.writestr(path, data)
@@ -107,10 +124,11 @@ def build_editable(wheel_directory, config_settings=None, metadata_directory=Non
 
 def build_sdist(sdist_directory, config_settings=None):
     """Writes the sources with the shared object into that folder, and answers the archive's name."""
-    stem = f"{NAME}-{VERSION}"
+    files = SOURCES + _package_files()
+    stem = f"{NAME}-{_version()}"
     name = f"{stem}.tar.gz"
     with tarfile.open(os.path.join(sdist_directory, name), "w:gz") as archive:
-        for path in SOURCES + _package_files():
+        for path in files:
             archive.add(os.path.join(HERE, path), f"{stem}/{path}")
         for path, data in [("PKG-INFO", _metadata()), *_licences()]:
             entry = tarfile.TarInfo(f"{stem}/{path}")

@@ -16,6 +16,10 @@ import zipfile
 import jsonpath_jp as jp
 
 FOLDER = os.path.dirname(os.path.dirname(os.path.abspath(__file__)))
+with open(os.path.join(FOLDER, "jsonpath_jp", "libjp.so"), "rb") as library:
+    IS_UNPROVED = b"jp: built without its proofs" in library.read()
+# That of the archives.
+VERSION = jp.__version__ + "+unproved" * IS_UNPROVED
 
 
 def backend():
@@ -44,7 +48,7 @@ class Package(unittest.TestCase):
     def assert_metadata(self, text):
         said = email.message_from_bytes(text)
         self.assertEqual(said["Name"], "jsonpath-jp")
-        self.assertEqual(said["Version"], jp.__version__)
+        self.assertEqual(said["Version"], VERSION)
         self.assertEqual(said["Author"], "the jp authors")
         self.assertEqual(said["License"], "MIT OR Apache-2.0")
         self.assertEqual(said["Requires-Python"], ">=3.8")
@@ -53,7 +57,7 @@ class Package(unittest.TestCase):
             self.assertEqual(text.partition(b"\n\n")[2], file.read())
 
     def assert_wheel(self, files):
-        info = f"jsonpath_jp-{jp.__version__}.dist-info"
+        info = f"jsonpath_jp-{VERSION}.dist-info"
         self.assert_metadata(files[f"{info}/METADATA"])
         self.assertIn(b"Permission is hereby granted", files[f"{info}/LICENSE-MIT"])
         self.assertIn(b"Apache License", files[f"{info}/LICENSE-APACHE"])
@@ -98,7 +102,7 @@ class Package(unittest.TestCase):
 
     def test_the_sources(self):
         _, files = self.made("build_sdist")
-        stem = f"jsonpath_jp-{jp.__version__}"
+        stem = f"jsonpath_jp-{VERSION}"
         self.assert_metadata(files[f"{stem}/PKG-INFO"])
         with tarfile.open(os.path.join(self.room, f"{stem}.tar.gz")) as archive:
             archive.extractall(self.room)
