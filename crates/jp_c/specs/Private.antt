@@ -1,4 +1,5 @@
 pub mod Askers
 pub mod Placing
+pub mod Planned
 pub mod Spending
 pub mod Subjects

@@ -1,11 +1,10 @@
 //! From bytes to answers.
 
 ghost use Rattle.std.specs.Prelude.{◌≡◌, ◌⊎◌, IfErr, IfOk, length, string_bytes};
-ghost use Rattle.jp_command.specs.Lines.{lines_of, output_of};
+ghost use Rattle.jp_command.specs.Lines.{output_of};
 ghost use Rattle.std.specs.Str.{IsUtf8};
 ghost use Rattle.jp_document.specs.Document.{IsDocument};
 ghost use Rattle.jp_evaluate.specs.Nodelist.{nodelist};
-ghost use Rattle.jp_evaluate.specs.Plan.{nodes_read};
 ghost use Rattle.jp_flat.specs.FlatValue.{document_in, lent_flat};
 ghost use Rattle.jp_limit.specs.OutputLimit.{StaysWithin};
 ghost use Rattle.jp_query.specs.declared.refusal.RefusalKind.TheVariants.{NoMemory};
@@ -17,14 +16,15 @@ ghost use Rattle.jp_c.specs.Private.Spending.{Spends};
 ghost use Rattle.jsonpath.specs.Find.{IsGivenUp};
 ghost use Rattle.jsonpath.specs.Size.{Fits};
 
-use crate::given_up::given_up;
+use crate::asker::walk;
+use crate::kept::Asker;
 use crate::limit::Limit;
+use crate::memory::Memory;
 use jp_canon::canon;
 use jp_check::{Checked, Profile, read_query};
-use jp_command::{Form, lines_at, selected_lines};
-use jp_evaluate::{Patterns, Plan};
+use jp_command::Form;
 use jp_flat::{Flat, FlatValue};
-use jp_held::{Excerpt, read_flat};
+use jp_held::read_flat;
 use jp_query::{Refusal, RefusalKind};
 use jp_select::Steps;
 use jsonpath::{FindFault, check_size};
@@ -101,22 +101,9 @@ pub(crate) fn lines(
         (length (output_of form (query_of query.now.query) (lent_flat root.entry)))) }
     ensures spends { Spends result steps.old steps.new }
 {
-    let mut patterns = Patterns::new(alloc);
-    let most = limit.output();
-    match selected_lines(
-        alloc,
-        form,
-        "",
-        None,
-        most,
-        root,
-        query,
-        &mut patterns,
-        steps,
-    ) {
-        Ok(lines) => Ok(lines.text),
-        Err(fault) => Err(given_up(fault)),
-    }
+    let mut memory = Memory::new(alloc);
+    walk(alloc, form, 0, 0, query, root, &mut memory, limit, steps)?;
+    Ok(memory.text)
 }
 
 /// The lines, in that form, of the nodes that a query selects in a document. Both are read here, the
@@ -137,38 +124,10 @@ pub(crate) fn answer(
     ensures spends { Spends result steps.old steps.new }
 {
     let query = asked(alloc, query, profile)?;
-    check_size(document)?;
-    let plan = Plan::of(alloc, &query)?;
-    let read = plan.read(alloc, document)?;
-    lines_read(alloc, form, &query, &read, limit, steps)
-}
-
-/// The lines, in that form, of the nodes that a query has in what was read of a document for it.
-fn lines_read(
-    alloc: Global,
-    form: Form,
-    query: &Checked,
-    read: &Excerpt<'_, '_, '_>,
-    limit: Limit,
-    steps: &mut Steps,
-) -> Result<String, FindFault>
-    ensures lines { IfOk result (λ text.
-        string_bytes text ≡ lines_of form (nodes_read (query_of query.now.query) read.now)) }
-    ensures within { IfOk result (λ text. StaysWithin (output_within limit)
-        (length (nodes_read (query_of query.now.query) read.now)) (length (string_bytes text))) }
-    ensures fault { IfErr result (IsGivenUp (output_within limit)
-        (length (nodes_read (query_of query.now.query) read.now))
-        (length (lines_of form (nodes_read (query_of query.now.query) read.now)))) }
-    ensures spends { Spends result steps.old steps.new }
-{
-    match read {
-        Excerpt::Document(flat) => lines(alloc, form, flat.value(), query, limit, steps),
-        Excerpt::Value(location, found) => {
-            let text = lines_at(alloc, form, location, found.value())?;
-            limit.check_bytes(text.as_str())?;
-            Ok(text)
-        }
-    }
+    let mut asker = Asker::new(alloc, query)?;
+    asker.ask(alloc, form, 0, 0, document, limit, steps)?;
+    let Asker { memory, .. } = asker;
+    Ok(memory.text)
 }
 
 /// What `answer` answers, where the document was read before. It is read again only where memory

@@ -1,19 +1,18 @@
 //! A kept query that is asked.
 
-ghost use Rattle.std.specs.Prelude.{◌≡◌, ◌++◌, [], IfErr, IfOk, IsTrue, MatchResult, OnOk, false, length, map};
+ghost use Rattle.std.specs.Prelude.{◌≡◌, [], IfErr, IfOk, MatchResult, OnOk, length};
 ghost use Rattle.std.specs.Prelude.{string_bytes};
-ghost use Rattle.jp_c.specs.Asked.{IsNoDocument};
 ghost use Rattle.jp_c.specs.Asking.{IsNoAnswerOf, answer_of, nodes_asked};
-ghost use Rattle.jp_c.specs.Limit.{MakesSteps, output_within};
+ghost use Rattle.jp_c.specs.Limit.{MakesSteps, most_of, output_within};
 ghost use Rattle.jp_c.specs.Outcome.{report_of, told_text};
-ghost use Rattle.jp_c.specs.Private.Askers.{AnswersNamed, LendsText};
+ghost use Rattle.jp_c.specs.Private.Askers.{LendsText};
 ghost use Rattle.jp_c.specs.declared.outcome.Outcome.TheVariants.{Fault, Text};
 ghost use Rattle.jp_c.specs.Private.Spending.{Spends, steps_of_limit};
 ghost use Rattle.jp_command.specs.Lines.{lines_of};
+ghost use Rattle.jp_command.specs.Selecting.{nodes_behind};
 ghost use Rattle.jp_document.specs.Document.{IsDocument};
-ghost use Rattle.jp_document.specs.Location.{step_of};
 ghost use Rattle.jp_document.specs.Value.{Value};
-ghost use Rattle.jp_evaluate.specs.Named.{nodes_at};
+ghost use Rattle.jp_evaluate.specs.Plan.{nodes_read};
 ghost use Rattle.jp_flat.specs.FlatValue.{lent_flat};
 ghost use Rattle.jp_limit.specs.OutputLimit.{StaysWithin};
 ghost use Rattle.jp_tree.specs.Views.{query_of};
@@ -26,26 +25,25 @@ use crate::lent::{Lent, lend};
 use crate::limit::{Limit, most};
 use crate::memory::Memory;
 use crate::outcome::{Answered, Report};
+use crate::planned::Planned;
 use jp_check::Checked;
 use jp_command::{Form, push_found, push_selected};
-use jp_document::Step;
-use jp_evaluate::name_location;
-use jp_flat::{FlatValue, Found};
-use jp_held::{read_into, read_value_into};
+use jp_flat::FlatValue;
+use jp_held::Excerpt;
 use jp_select::Steps;
 use jsonpath::{FindFault, check_size};
-use std::alloc::Global;
+use std::alloc::{AllocError, Global};
 use std::mem;
 
 impl Asker {
-    /// The query, with no memory yet.
-    pub(crate) fn new(alloc: Global, query: Checked) -> Asker
-        ensures { result.query ≡ query }
+    /// The query with its plan, and no other memory yet. The only error is that memory ran out.
+    pub(crate) fn new(alloc: Global, query: Checked) -> Result<Asker, AllocError>
+        ensures { IfOk result (λ a. a.query ≡ query) }
     {
-        Asker {
-            query,
+        Ok(Asker {
+            query: Planned::new(alloc, query)?,
             memory: Memory::new(alloc),
-        }
+        })
     }
 
     /// Makes the memory's text the lines of the first nodes in the document that these bytes are.
@@ -73,12 +71,21 @@ impl Asker {
         let Asker { query, memory } = self;
         memory.text.clear();
         check_size(document)?;
-        if from == 0 && ask_named(alloc, form, query, document, memory)? {
-            return limit.check_bytes(memory.text.as_str());
+        let room = memory.take_room(alloc);
+        match query.read(alloc, room, document) {
+            Ok(read) => {
+                let checked = query.query();
+                let asked = ask_read(
+                    alloc, form, from, count, checked, &read, memory, limit, steps,
+                );
+                memory.room = read.into_room();
+                asked
+            }
+            Err((room, fault)) => {
+                memory.room = room;
+                Err(FindFault::from(fault))
+            }
         }
-        ask_whole(
-            alloc, form, from, count, query, document, memory, limit, steps,
-        )
     }
 
     /// What `ask` puts into the text, of a document that was read.
@@ -106,7 +113,17 @@ impl Asker {
     {
         let Asker { query, memory } = self;
         memory.text.clear();
-        walk(alloc, form, from, count, query, root, memory, limit, steps)
+        walk(
+            alloc,
+            form,
+            from,
+            count,
+            query.query(),
+            root,
+            memory,
+            limit,
+            steps,
+        )
     }
 
     /// What is answered, which takes the memory's text, or the text where there is no answer.
@@ -145,117 +162,46 @@ impl Asker {
     }
 }
 
-/// Finds the node at the location that the query names while the document is read; whether it names
-/// one.
-fn ask_named(
-    alloc: Global,
-    form: Form,
-    query: &Checked,
-    document: &[u8],
-    memory: &mut Memory,
-) -> Result<bool, FindFault>
-    requires { Fits document.now }
-    ensures named { IfOk result (λ is_named. IsTrue is_named
-        → AnswersNamed form (query_of query.now.query) document.now (string_bytes memory.old.text)
-        (string_bytes memory.new.text)) }
-    ensures other { IfOk result (λ is_named. is_named ≡ false
-        → string_bytes memory.new.text ≡ string_bytes memory.old.text) }
-    ensures fault { IfErr result (IsNoDocument document.now) }
-{
-    let mut location = memory.walking.open_location(alloc)?;
-    let is_named = name_location(query, &mut location)?;
-    let asked = if is_named {
-        ask_at(alloc, form, &location, document, memory)
-    } else {
-        Ok(())
-    };
-    memory.walking.close_location(location);
-    asked?;
-    Ok(is_named)
-}
-
-/// Puts the line of the value at a location behind the text, or nothing where no value is there.
-fn ask_at(
-    alloc: Global,
-    form: Form,
-    location: &[Step<'_>],
-    document: &[u8],
-    memory: &mut Memory,
-) -> Result<(), FindFault>
-    requires { Fits document.now }
-    ensures answer { OnOk result ((d : Value) × IsDocument document.now d
-        × (string_bytes memory.new.text ≡ string_bytes memory.old.text
-        ++ lines_of form (nodes_at (map step_of location.now) d))) }
-    ensures fault { IfErr result (IsNoDocument document.now) }
-{
-    let room = memory.take_room(alloc);
-    match read_value_into(alloc, room, document, location) {
-        Ok(Found::Value(flat)) => {
-            let pushed = push_found(form, location, Some(flat.value()), &mut memory.text);
-            memory.room = flat.into_room();
-            pushed?;
-            Ok(())
-        }
-        Ok(Found::Nothing(room)) => {
-            memory.room = room;
-            Ok(())
-        }
-        Err((room, fault)) => {
-            memory.room = room;
-            Err(FindFault::from(fault))
-        }
-    }
-}
-
-/// Reads the whole document, and walks through it.
-fn ask_whole(
+/// Puts into the text, which is empty, the lines of the first nodes that a query has in what was read of a
+/// document for it.
+fn ask_read(
     alloc: Global,
     form: Form,
     from: u64,
     count: u64,
     query: &Checked,
-    document: &[u8],
+    read: &Excerpt<'_, '_>,
     memory: &mut Memory,
     limit: Limit,
     steps: &mut Steps,
 ) -> Result<(), FindFault>
-    requires fits { Fits document.now }
-    requires empty { string_bytes memory.now.text ≡ [] }
-    ensures answer { OnOk result ((d : Value) × IsDocument document.now d
-        × (string_bytes memory.new.text ≡ answer_of from count form (query_of query.now.query) d)
-        × StaysWithin (output_within limit)
-        (length (nodes_asked from count (query_of query.now.query) d))
+    requires { string_bytes memory.now.text ≡ [] }
+    ensures answer { OnOk result (string_bytes memory.new.text
+        ≡ lines_of form (nodes_behind from (most_of count) (nodes_read (query_of query.now.query) read.now))) }
+    ensures within { OnOk result (StaysWithin (output_within limit)
+        (length (nodes_behind from (most_of count) (nodes_read (query_of query.now.query) read.now)))
         (length (string_bytes memory.new.text))) }
-    ensures fault { IfErr result (IsNoAnswerOf from count form (query_of query.now.query)
-        document.now (output_within limit)) }
+    ensures fault { IfErr result (IsGivenUp (output_within limit)
+        (length (nodes_behind from (most_of count) (nodes_read (query_of query.now.query) read.now)))
+        (length (lines_of form (nodes_behind from (most_of count)
+        (nodes_read (query_of query.now.query) read.now))))) }
     ensures spends { Spends result steps.old steps.new }
 {
-    let room = memory.take_room(alloc);
-    match read_into(alloc, room, document) {
-        Ok(flat) => {
-            let asked = walk(
-                alloc,
-                form,
-                from,
-                count,
-                query,
-                flat.value(),
-                memory,
-                limit,
-                steps,
-            );
-            memory.room = flat.into_room();
-            asked
+    match read {
+        Excerpt::Document(flat) => {
+            let root = flat.value();
+            walk(alloc, form, from, count, query, root, memory, limit, steps)
         }
-        Err((room, fault)) => {
-            memory.room = room;
-            Err(FindFault::from(fault))
+        Excerpt::Value(_, _) if from > 0 => Ok(()),
+        Excerpt::Value(location, found) => {
+            push_found(form, location, found.value(), &mut memory.text)?;
+            limit.check_bytes(memory.text.as_str())
         }
     }
 }
 
-/// Walks through a document that was read.
-fn walk(
+/// Walks through a document that was read, and puts what is asked for into the text, which is empty.
+pub(crate) fn walk(
     alloc: Global,
     form: Form,
     from: u64,

@@ -58,7 +58,8 @@ fn kept_query(alloc: Global, query: &[u8], profile: Profile) -> Result<Handle, F
     ensures fault { IfErr result (IsQueryFault profile query.now) }
 {
     let query = asked(alloc, query, profile)?;
-    Ok(Handle::keep(alloc, Kept::Query(Asker::new(alloc, query)))?)
+    let asker = Asker::new(alloc, query)?;
+    Ok(Handle::keep(alloc, Kept::Query(asker))?)
 }
 
 /// Keeps the document in place of what the handle kept; where it is refused the handle keeps nothing,

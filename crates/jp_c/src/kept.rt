@@ -1,7 +1,7 @@
 //! What a handle keeps.
 
 use crate::memory::Memory;
-use jp_check::Checked;
+use crate::planned::Planned;
 use jp_flat::Flat;
 
 /// What a handle keeps.
@@ -13,9 +13,9 @@ pub enum Kept {
     Document(Flat<'static>),
 }
 
-/// A query that is accepted, with the memory of what is asked with it.
+/// A query that is accepted, with what is read of documents for it, and the memory of what is asked with it.
 #[derive(Drop)]
 pub struct Asker {
-    pub(crate) query: Checked,
+    pub(crate) query: Planned,
     pub(crate) memory: Memory,
 }

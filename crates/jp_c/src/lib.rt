@@ -33,6 +33,7 @@ mod misread;
 mod names;
 mod numbers;
 mod outcome;
+mod planned;
 mod refused;
 #[cfg(test)]
 mod tests;

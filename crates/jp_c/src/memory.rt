@@ -1,10 +1,9 @@
 //! The memory of what is asked with a query that is kept, which goes from one call to the next.
 
-ghost use Rattle.std.specs.Prelude.{◌≡◌};
+ghost use Rattle.std.specs.Prelude.{◌≡◌, [], string_bytes};
 
-use crate::emptied::{Frames, frames_again, steps_again};
+use crate::emptied::{Frames, frames_again};
 use jp_command::Rooms;
-use jp_document::Step;
 use jp_evaluate::Patterns;
 use jp_flat::{FlatValue, Room};
 use std::alloc::{AllocError, Global};
@@ -28,7 +27,6 @@ pub(crate) struct Walking {
     patterns: Patterns,
     path: String,
     frames: Option<Box<Frames<'static>, Global>>,
-    location: Option<Box<Vec<Step<'static>>, Global>>,
 }
 
 /// The memory while an evaluation uses it, and the boxes that it goes back into.
@@ -40,7 +38,9 @@ pub(crate) struct Walk<'d> {
 
 impl Memory {
     /// None yet.
-    pub(crate) fn new(alloc: Global) -> Memory {
+    pub(crate) fn new(alloc: Global) -> Memory
+        ensures { string_bytes result.text ≡ [] }
+    {
         Memory {
             text: String::new(alloc),
             room: Room::new(alloc),
@@ -48,7 +48,6 @@ impl Memory {
                 patterns: Patterns::new(alloc),
                 path: String::new(alloc),
                 frames: None,
-                location: None,
             },
         }
     }
@@ -82,19 +81,6 @@ impl Walking {
         self.patterns = rooms.patterns;
         self.path = rooms.path;
         self.frames = Some(frames_again(frames));
-    }
-
-    /// The memory for a location alone.
-    pub(crate) fn open_location<'q>(
-        &mut self,
-        alloc: Global,
-    ) -> Result<Box<Vec<Step<'q>>, Global>, AllocError> {
-        Ok(steps_again(boxed(alloc, self.location.take())?))
-    }
-
-    /// The memory after it.
-    pub(crate) fn close_location(&mut self, location: Box<Vec<Step<'_>>, Global>) {
-        self.location = Some(steps_again(location));
     }
 }
 

@@ -91,7 +91,7 @@ fn write_read<W: Writer>(
     alloc: Global,
     form: Form,
     query: &Checked,
-    read: &Excerpt<'_, '_, '_>,
+    read: &Excerpt<'_, '_>,
     output: &mut W,
 ) -> Result<(), Fault>
     ensures ok { OnOk result (WritesAll W.contents W.has_failed output.old output.new

@@ -5,7 +5,7 @@ ghost use Rattle.std.specs.List.{flat_map};
 ghost use Rattle.jp_command.specs.Found.{found_nodes};
 ghost use Rattle.jp_command.specs.Lines.{line_behind, line_of, lines_of};
 ghost use Rattle.jp_command.specs.Private.Fronts.{path_in_line};
-ghost use Rattle.jp_document.specs.Location.{step_of};
+ghost use Rattle.jp_document.specs.Location.{owned_step};
 ghost use Rattle.jp_document.specs.Node.{node_at};
 ghost use Rattle.jp_command.specs.Output.{StopsWriting, WritesAll};
 ghost use Rattle.jp_command.specs.Writes.{GoesAs};
@@ -14,36 +14,16 @@ use crate::device::Writer;
 use crate::fault::Fault;
 use crate::lines::{Form, push_after_path};
 use crate::output::write_all;
-use jp_document::{Step, push_path};
+use jp_document::OwnedStep;
+use jp_held::push_location;
 use jp_lent::Selectable;
 use std::alloc::{AllocError, Global};
 
-/// As many bytes as most lines have at most, so that a line grows at most once.
-const SHORT_LINE: usize = 64;
-
-/// The line of the node at a location, with the value that was found there; no line where none was.
+/// Appends the line of the node at a location, with the value that was found there; nothing where none was.
 /// The only error is that memory ran out.
-pub fn lines_at<'d, V: Selectable>(
-    alloc: Global,
+pub fn push_found<V: Selectable>(
     form: Form,
-    location: &[Step<'d>],
-    value: Option<V>,
-) -> Result<String, AllocError>
-    ensures { IfOk result (λ lines. string_bytes lines
-        ≡ lines_of form (found_nodes V.meaning location.now value)) }
-{
-    let mut lines = String::new(alloc);
-    if value.is_some() {
-        lines.reserve(SHORT_LINE)?;
-    }
-    push_found(form, location, value, &mut lines)?;
-    Ok(lines)
-}
-
-/// Appends that line. The only error is that memory ran out.
-pub fn push_found<'d, V: Selectable>(
-    form: Form,
-    location: &[Step<'d>],
+    location: &[OwnedStep],
     value: Option<V>,
     lines: &mut String,
 ) -> Result<(), AllocError>
@@ -57,38 +37,38 @@ pub fn push_found<'d, V: Selectable>(
 }
 
 /// Appends the line of the node at this location with this value.
-fn push_line_at<'d, V: Selectable>(
+fn push_line_at<V: Selectable>(
     form: Form,
-    location: &[Step<'d>],
+    location: &[OwnedStep],
     value: V,
     line: &mut String,
 ) -> Result<(), AllocError>
     ensures { OnOk result (string_bytes line.new
-        ≡ string_bytes line.old ++ line_of form (node_at (map step_of location.now) (V.meaning value))) }
+        ≡ string_bytes line.old ++ line_of form (node_at (map owned_step location.now) (V.meaning value))) }
 {
     push_path_alone(form, location, line)?;
     push_after_path(form, value, line)
 }
 
 /// Appends the path that the line of the node at this location has, if it has one.
-fn push_path_alone(form: Form, location: &[Step<'_>], line: &mut String) -> Result<(), AllocError>
+fn push_path_alone(form: Form, location: &[OwnedStep], line: &mut String) -> Result<(), AllocError>
     ensures { OnOk result (string_bytes line.new ≡ string_bytes line.old
-        ++ path_in_line form (map step_of location.now)) }
+        ++ path_in_line form (map owned_step location.now)) }
 {
     match form {
         Form::Values | Form::RawValues => Ok(()),
-        Form::Paths | Form::Both | Form::RawBoth => push_path(line, location),
+        Form::Paths | Form::Both | Form::RawBoth => push_location(line, location),
     }
 }
 
 /// Writes that line, behind the text `lead`; it is made in `line`, and what that held is gone then.
 /// `Write` says that the output failed, and `NoMemory` that memory ran out; after both a prefix of
 /// the line is written. There are no other errors.
-pub fn write_found<'d, V: Selectable, W: Writer>(
+pub fn write_found<V: Selectable, W: Writer>(
     alloc: Global,
     form: Form,
     lead: &str,
-    location: &[Step<'d>],
+    location: &[OwnedStep],
     value: Option<V>,
     line: &mut String,
     output: &mut W,

@@ -45,7 +45,7 @@ pub use eval::{read_within_limit, run_eval};
 pub use exit::exit_status;
 pub use explained::report_refusal;
 pub use fault::Fault;
-pub use found::{lines_at, push_found, write_found};
+pub use found::{push_found, write_found};
 pub use help::CommandHelp;
 pub use input::chunk_buffer;
 pub use jp_limit::OutputLimit;

@@ -1,7 +1,7 @@
 -- What is read of a document for a query has the nodes that the query selects: for the calls of `Plan`.
 use Rattle.std.proofs.Common.{ℕ, List, ap, map, option_to_list, refl, subst, sym, ◌∙◌}
 use Rattle.jp_document.specs.Document.{IsDocument}
-use Rattle.jp_document.specs.Location.{step_of}
+use Rattle.jp_document.specs.Location.{owned_step}
 use Rattle.jp_document.specs.Node.{node_at}
 use Rattle.jp_flat.specs.Asked.{IsReadFor}
 use Rattle.jp_flat.specs.FlatValue.{document_in}
@@ -20,12 +20,12 @@ pub answers-portion : (q : QueryTree) (p : Portion) (bytes : List ℕ) (e : Exce
     → IsExcerpt p bytes e → IsReadToAnswer q bytes e
 answers-portion q (Value l) bytes (read.Value k found) names is =
     let at = is.1 in
-    let names_it : NamesLocation q (map step_of k.now) =
-    subst (λ ks. NamesLocation q (map step_of ks)) (sym is.0) names in
+    let names_it : NamesLocation q (map owned_step k.now) =
+    subst (λ ks. NamesLocation q (map owned_step ks)) (sym is.0) names in
     record {
       document = at.document;
       is = at.is;
-      same = ap (λ o. map (node_at (map step_of k.now)) (option_to_list o)) (sym at.at)
+      same = ap (λ o. map (node_at (map owned_step k.now)) (option_to_list o)) (sym at.at)
           ∙ sym (names_it at.document);
     }
 answers-portion q (Members asked) bytes (read.Document f) no_more is = record {

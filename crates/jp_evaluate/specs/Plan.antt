@@ -1,7 +1,7 @@
 -- What is read of a document for a query, and which nodes it then has (RFC 9535 section 2.1.2).
 use Rattle.std.specs.Prelude.{◌≡◌, ⊤, ℕ, List, Option, Some, None, map, option_map, option_to_list}
 use Rattle.jp_document.specs.Document.{IsDocument}
-use Rattle.jp_document.specs.Location.{Location, step_of}
+use Rattle.jp_document.specs.Location.{Location, owned_step}
 use Rattle.jp_document.specs.Node.{Node, node_at, root_of}
 use Rattle.jp_document.specs.Value.{Value as DocumentValue}
 use Rattle.jp_flat.specs.FlatValue.{document_in, flat_found}
@@ -18,7 +18,7 @@ use Rattle.jp_evaluate.specs.Nodelist.{holds, nodelist}
 -- the query selects over each document what it selects in that portion of it: the location is the one
 -- that it names, or it asks for no more
 abbrev pub Serves : QueryTree → Portion → Type 0
-Serves q (Value l) = NamesLocation q (map step_of l.items)
+Serves q (Value l) = NamesLocation q (map owned_step l.items)
 Serves q (Members asked) = AsksNoMore q asked
 Serves q Whole = ⊤
 
@@ -30,7 +30,7 @@ ServesTest e Whole = ⊤
 
 -- the location that is wanted, if only the value there is
 abbrev pub location_in : Portion → Option Location
-location_in (Value l) = Some (map step_of l.items)
+location_in (Value l) = Some (map owned_step l.items)
 location_in (Members asked) = None
 location_in Whole = None
 
@@ -39,7 +39,7 @@ location_in Whole = None
 abbrev pub nodes_read : QueryTree → Excerpt → List Node
 nodes_read q (read.Document f) = nodelist q (document_in f)
 nodes_read q (read.Value l found) =
-    map (node_at (map step_of l.now)) (option_to_list (option_map document_in (flat_found found)))
+    map (node_at (map owned_step l.now)) (option_to_list (option_map document_in (flat_found found)))
 
 -- the bytes are a document, and what was read of it has the nodes that the query selects in it
 pub record IsReadToAnswer (q : QueryTree) (bytes : List ℕ) (e : Excerpt) : Type 0 where

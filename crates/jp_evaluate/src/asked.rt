@@ -26,14 +26,12 @@ use std::alloc::{AllocError, Global};
 /// first, for some members of a list's items if it goes to items and then to these members, and for
 /// some of the document itself if it goes to these members; what comes later has no filters, and the
 /// filters of items ask each of their queries of such members. Others have None. The only error is that memory ran out.
-pub(crate) fn asked_by<'q>(
-    alloc: Global,
-    query: &'q Checked,
-) -> Result<Option<AskedFor<'q>>, AllocError>
+pub(crate) fn asked_by(alloc: Global, query: &Checked) -> Result<Option<AskedFor>, AllocError>
     ensures { IfOk result (λ o. IfSome o (AsksNoMore (query_of query.now.query))) }
 {
     let segments = &query.query().segments;
     if let Some(name) = name_anywhere(segments) {
+        let name = String::from_str(alloc, name)?;
         return Ok(Some(AskedFor::Anywhere(name)));
     }
     if let Some(names) = names_of_items(alloc, segments)? {
@@ -70,10 +68,7 @@ fn only_name(selectors: &[Selector]) -> Option<&str>
 }
 
 /// The names of all members that the segments ask for of a list's items, None where it is not told.
-fn names_of_items<'q>(
-    alloc: Global,
-    segments: &'q [Segment],
-) -> Result<Option<Vec<&'q str>>, AllocError>
+fn names_of_items(alloc: Global, segments: &[Segment]) -> Result<Option<Vec<String>>, AllocError>
     ensures { IfOk result (λ o. IfSome o (λ names. AskedOf names.items
         (λ p. asks_items p (segment_trees (map segment_of segments.now))))) }
 {
@@ -85,7 +80,7 @@ fn names_of_items<'q>(
     }
 }
 
-fn push_items<'q>(segments: &'q [Segment], names: &mut Vec<&'q str>) -> Result<bool, AllocError>
+fn push_items(segments: &[Segment], names: &mut Vec<String>) -> Result<bool, AllocError>
     ensures { IfOk result (Collects names.old.items names.new.items
         (λ p. asks_items p (segment_trees (map segment_of segments.now)))) }
 {
@@ -101,10 +96,7 @@ fn push_items<'q>(segments: &'q [Segment], names: &mut Vec<&'q str>) -> Result<b
     push_members(rest, names)
 }
 
-fn push_selectors<'q>(
-    selectors: &'q [Selector],
-    names: &mut Vec<&'q str>,
-) -> Result<bool, AllocError>
+fn push_selectors(selectors: &[Selector], names: &mut Vec<String>) -> Result<bool, AllocError>
     ensures { IfOk result (Collects names.old.items names.new.items
         (λ p. asks_selectors p (selector_trees (map selector_of selectors.now)))) }
 {
@@ -117,7 +109,7 @@ fn push_selectors<'q>(
 }
 
 /// A name selects no items, so that there is nothing to be left out.
-fn push_selector<'q>(selector: &'q Selector, names: &mut Vec<&'q str>) -> Result<bool, AllocError>
+fn push_selector(selector: &Selector, names: &mut Vec<String>) -> Result<bool, AllocError>
     ensures { IfOk result (Collects names.old.items names.new.items
         (λ p. asks_selector p (selector_of selector.now))) }
 {

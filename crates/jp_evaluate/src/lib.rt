@@ -53,7 +53,6 @@ pub use each::Nodes;
 pub use evaluation::{evaluate, nodes};
 pub use evaluation_fault::EvaluationFault;
 pub use lent::{LentNodes, lent_nodes, lent_nodes_in, lent_nodes_with};
-pub use named::name_location;
 pub use pattern::Patterns;
 pub use plan::Plan;
 pub use truth::holds_of;

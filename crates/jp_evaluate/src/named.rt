@@ -2,13 +2,13 @@
 
 ghost use Rattle.std.specs.Prelude.{◌≡◌, [], if◌then◌else◌, IfOk, IfSome, None, Some};
 ghost use Rattle.std.specs.Prelude.{is_some, map, option_map, true};
-ghost use Rattle.jp_document.specs.Location.{step_of};
+ghost use Rattle.jp_document.specs.Location.{owned_step, step_of};
 ghost use Rattle.jp_tree.specs.Views.{query_of, segment_of, selector_of};
 ghost use Rattle.jp_evaluate.specs.Named.{NamesLocation, location_named, step_of_segment};
 ghost use Rattle.jp_evaluate.specs.Named.{step_of_selector};
 
 use jp_check::Checked;
-use jp_document::Step;
+use jp_document::{OwnedStep, Step};
 use jp_tree::{Numeral, Query, Segment, Selector};
 use std::alloc::{AllocError, Global};
 
@@ -16,42 +16,25 @@ use std::alloc::{AllocError, Global};
 /// none where the document has no value there. A query names one where each of its segments is a
 /// child segment whose only selector is a name or an index from 0 on; others have None, which takes
 /// no memory, nor does the root. The only error is that memory ran out.
-pub(crate) fn named_location<'q>(
+pub(crate) fn named_location(
     alloc: Global,
-    query: &'q Checked,
-) -> Result<Option<Vec<Step<'q>>>, AllocError>
+    query: &Checked,
+) -> Result<Option<Vec<OwnedStep>>, AllocError>
     ensures names { IfOk result (λ o. IfSome o
-        (λ l. NamesLocation (query_of query.now.query) (map step_of l.items))) }
-    ensures exact { IfOk result (λ o. option_map (λ l. map step_of l.items) o
+        (λ l. NamesLocation (query_of query.now.query) (map owned_step l.items))) }
+    ensures exact { IfOk result (λ o. option_map (λ l. map owned_step l.items) o
         ≡ location_named (query_of query.now.query)) }
 {
-    let mut location = Vec::new(alloc);
-    if name_location(query, &mut location)? {
+    let query = query.query();
+    if !names_steps(query) {
+        return Ok(None);
+    }
+    let mut location = Vec::with_capacity(alloc, query.segments.len())?;
+    if push_steps(alloc, query, &mut location)? {
         Ok(Some(location))
     } else {
         Ok(None)
     }
-}
-
-/// `named_location` in the memory of a list, in place of what it holds: whether the query names a
-/// location.
-pub fn name_location<'q>(
-    query: &'q Checked,
-    location: &mut Vec<Step<'q>>,
-) -> Result<bool, AllocError>
-    ensures names { IfOk result (λ is_named. is_named ≡ true
-        → NamesLocation (query_of query.now.query) (map step_of location.new.items)) }
-    ensures exact { IfOk result (λ is_named.
-        (if is_named then Some (map step_of location.new.items) else None)
-        ≡ location_named (query_of query.now.query)) }
-{
-    location.clear();
-    let query = query.query();
-    if !names_steps(query) {
-        return Ok(false);
-    }
-    location.reserve(query.segments.len())?;
-    push_steps(query, location)
 }
 
 /// Whether each segment names a step.
@@ -67,19 +50,33 @@ pub(crate) fn names_steps(query: &Query) -> bool
 }
 
 /// Puts the steps that the segments name into a list that holds none; whether each names one.
-fn push_steps<'q>(query: &'q Query, location: &mut Vec<Step<'q>>) -> Result<bool, AllocError>
+fn push_steps(
+    alloc: Global,
+    query: &Query,
+    location: &mut Vec<OwnedStep>,
+) -> Result<bool, AllocError>
     requires { location.old.items ≡ [] }
     ensures { IfOk result (λ is_named.
-        (if is_named then Some (map step_of location.new.items) else None)
+        (if is_named then Some (map owned_step location.new.items) else None)
         ≡ location_named (query_of query.now)) }
 {
     for segment in &query.segments {
         let Some(step) = segment_step(segment) else {
             return Ok(false);
         };
-        location.push(step)?;
+        location.push(owned(alloc, step)?)?;
     }
     Ok(true)
+}
+
+/// This step, with a name of its own.
+fn owned(alloc: Global, step: Step<'_>) -> Result<OwnedStep, AllocError>
+    ensures { IfOk result (λ owned. owned_step owned ≡ step_of step.entry) }
+{
+    match step {
+        Step::Name(name) => Ok(OwnedStep::Name(String::from_str(alloc, name)?)),
+        Step::Index(index) => Ok(OwnedStep::Index(index)),
+    }
 }
 
 /// The step that a segment names, None for a descendant segment, and for one with no selector or

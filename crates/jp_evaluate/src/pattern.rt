@@ -79,7 +79,7 @@ fn conforming(alloc: Global, text: &str) -> Result<Option<CountedPattern>, Alloc
 
 /// The texts that were read as patterns, each with what it spells; of 16 that are kept, the last
 /// gives way to a new one. They go from one evaluation to the next by `lent_nodes_with` and
-/// `LentNodes::into_patterns`.
+/// `LentNodes::into_parts`.
 #[derive(Drop)]
 pub struct Patterns {
     read: Vec<ReadText>,

@@ -19,13 +19,13 @@ use std::alloc::{AllocError, Global};
 /// How much of a document is read for queries, or for the expression of a filter: the value at the
 /// location that a query names, the members that are asked for, or the whole document.
 #[derive(Drop)]
-pub struct Plan<'q> {
-    portion: Portion<'q>,
+pub struct Plan {
+    portion: Portion,
 }
 
-impl<'q> Plan<'q> {
+impl Plan {
     /// The plan for a query. The only error is that memory ran out.
-    pub fn of(alloc: Global, query: &'q Checked) -> Result<Plan<'q>, AllocError>
+    pub fn of(alloc: Global, query: &Checked) -> Result<Plan, AllocError>
         ensures serves { IfOk result (λ p. Serves (query_of query.now.query) p.portion) }
         ensures named { IfOk result
             (λ p. location_in p.portion ≡ location_named (query_of query.now.query)) }
@@ -35,7 +35,7 @@ impl<'q> Plan<'q> {
     }
 
     /// The plan for several queries, which are answered together. The only error is that memory ran out.
-    pub fn of_all(alloc: Global, queries: &'q [Checked]) -> Result<Plan<'q>, AllocError>
+    pub fn of_all(alloc: Global, queries: &[Checked]) -> Result<Plan, AllocError>
         ensures { IfOk result (λ p. All (λ q. Serves q p.portion)
             (map (λ c. query_of c.query) queries.now)) }
     {
@@ -47,7 +47,7 @@ impl<'q> Plan<'q> {
 
     /// The plan for an expression that is tested where a document is its root and its current node. The
     /// only error is that memory ran out.
-    pub fn of_test(alloc: Global, filter: &'q CheckedFilter) -> Result<Plan<'q>, AllocError>
+    pub fn of_test(alloc: Global, filter: &CheckedFilter) -> Result<Plan, AllocError>
         ensures { IfOk result (λ p. ServesTest (expr_of filter.now.expr) p.portion) }
     {
         let asked = asked_by_test(alloc, filter)?;
@@ -57,7 +57,7 @@ impl<'q> Plan<'q> {
     }
 
     /// How much of a document is read.
-    pub fn portion(&self) -> &Portion<'q>
+    pub fn portion(&self) -> &Portion
         ensures { result.now ≡ self.now.portion }
     {
         &self.portion
@@ -69,7 +69,7 @@ impl<'q> Plan<'q> {
         &'p self,
         alloc: Global,
         bytes: &'t [u8],
-    ) -> Result<Excerpt<'p, 'q, 't>, DocumentFault>
+    ) -> Result<Excerpt<'p, 't>, DocumentFault>
         ensures ok { IfOk result (λ read. (q : QueryTree) → Serves q self.now.portion
             → IsReadToAnswer q bytes.now read) }
         ensures fault { IfErr result (IsDocumentFault bytes.now) }
@@ -86,7 +86,7 @@ impl<'q> Plan<'q> {
         alloc: Global,
         room: Room,
         bytes: &'t [u8],
-    ) -> Result<Excerpt<'p, 'q, 't>, (Room, DocumentFault)>
+    ) -> Result<Excerpt<'p, 't>, (Room, DocumentFault)>
         ensures ok { IfOk result (λ read. (q : QueryTree) → Serves q self.now.portion
             → IsReadToAnswer q bytes.now read) }
         ensures fault { IfErr result (λ e. IsDocumentFault bytes.now e.1) }
@@ -121,8 +121,8 @@ impl<'q> Plan<'q> {
 }
 
 /// The members that are asked for, or the whole document where that is not told.
-fn members_or_whole<'q>(asked: Option<AskedFor<'q>>) -> Portion<'q>
-    ensures { result ≡ portion_asked asked.entry }
+fn members_or_whole(asked: Option<AskedFor>) -> Portion
+    ensures { result ≡ portion_asked asked }
 {
     match asked {
         Some(asked) => Portion::Members(asked),
@@ -131,7 +131,7 @@ fn members_or_whole<'q>(asked: Option<AskedFor<'q>>) -> Portion<'q>
 }
 
 /// How much of a document a query is answered from.
-fn portion_for<'q>(alloc: Global, query: &'q Checked) -> Result<Portion<'q>, AllocError>
+fn portion_for(alloc: Global, query: &Checked) -> Result<Portion, AllocError>
     ensures serves { IfOk result (Serves (query_of query.now.query)) }
     ensures named { IfOk result
         (λ p. location_in p ≡ location_named (query_of query.now.query)) }

@@ -9,8 +9,8 @@ use Rattle.serde_json.specs.Data as parsed
 use Rattle.serde_json.specs.Data.{Data, put}
 use Rattle.serde_json.specs.Read.{number_of, of_items, of_json, of_members, read}
 use Rattle.jp_document.specs.Document.{items_of_data, members_of_data, value_of_data}
-use Rattle.jp_document.specs.Value.{Items, Value, boolean, item, list, member, members_of, no_items}
-use Rattle.jp_document.specs.Value.{null, object, text}
+use Rattle.jp_document.specs.Value.{Items, Value, item, list, member, members_of}
+use Rattle.jp_document.specs.Value.{object}
 use Rattle.jp_document.proofs.Members.ByName.{bytes_cmp}
 use Rattle.jp_document.proofs.Members.Inserting.{through}
 use Rattle.jp_document.proofs.Options.{some_from_both, some_from_map, some_from_then}

@@ -14,7 +14,7 @@ use Rattle.std.proofs.lemmas.List.{length-append}
 use Rattle.std.proofs.lemmas.Map.Lookups.{exact_bytes}
 use Rattle.json.specs.Json.{after_end_array, read_key}
 use Rattle.json.specs.Token.{Token}
-use Rattle.jp_document.specs.Location.{Location, Step, child, entries, named, nth, step_cmp, step_of}
+use Rattle.jp_document.specs.Location.{Location, Step, child, entries, named, nth, owned_step, step_cmp}
 use Rattle.jp_document.specs.Location.{value_at}
 use Rattle.jp_flat.specs.Private.FromTokens.{ReadsValue}
 use Rattle.jp_document.specs.Value.{Value, items_of, list, members_of, object}
@@ -70,8 +70,8 @@ found_more : (n : ℕ) (t : Shown) (s : Option Sought) (k : Step) (before v afte
     (later (sought_at k (option_map whole_location s)) i j)
 found_more n t None k before v after i j also old new = old
 found_more n t (Some s) k before v after i j also old new =
-    let q = step_of s.step in
-    let l = map step_of s.rest.now in
+    let q = owned_step s.step.now in
+    let l = map owned_step s.rest.now in
     subst (λ o. IsFoundAs n t (option_and_then (λ w. value_at w l) o)
     (later (sought_at k (Some (q ∷ l))) i j)) (sym (also q))
     (found_by (is_eq (step_cmp q k)) n t l v (child before q) i j old new)
@@ -338,9 +338,9 @@ nothing_inside : (n : ℕ) (t : Shown) (s : Option Sought) (v : Value) → entri
     → IsFoundAs n t (value_sought (option_map whole_location s) v) None
 nothing_inside n t None v alone = refl
 nothing_inside n t (Some s) v alone =
-    let l = map step_of s.rest.now in
+    let l = map owned_step s.rest.now in
     ap (λ es. option_and_then (λ w. value_at w l)
-    (lookup (λ k. is_eq (step_cmp (step_of s.step) k)) es)) alone
+    (lookup (λ k. is_eq (step_cmp (owned_step s.step.now) k)) es)) alone
 
 pub finds-leaf : (depth : ℕ) (ts r : List Token) (token : Token) (t : Shown) (i : Item)
     (s : Option Sought) → ts ≡ token ∷ r → ReadsLeaf token t i

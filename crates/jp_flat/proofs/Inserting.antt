@@ -2,7 +2,7 @@
 -- tokens.
 use Rattle.std.proofs.Common.{◌++◌, ◌≡◌}
 use Rattle.std.proofs.Common.{ℕ, zero, suc, Bool, true, List, [], ◌∷◌, take, drop}
-use Rattle.std.proofs.Common.{map, Some, Greater, is_lt, refl, sym, ap, ◌∙◌}
+use Rattle.std.proofs.Common.{Greater, is_lt, refl, sym, ap, ◌∙◌}
 use Rattle.std.specs.BTreeMap.{insert_entry}
 use Rattle.std.specs.List.{insert, list_all}
 use Rattle.std.specs.Map.{keys_of}

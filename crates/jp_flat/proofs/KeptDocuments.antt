@@ -1,6 +1,6 @@
 -- What is kept of a whole text that is a document: for `Room::read_asked`.
 use Rattle.std.proofs.Common.{◌≡◌, ℕ, true, List, [], IsUtf8, inl, inr, is_some, refl, sym, ap, subst}
-use Rattle.std.proofs.Common.{unwrap_or, ◌∙◌}
+use Rattle.std.proofs.Common.{string_bytes, unwrap_or, ◌∙◌}
 use Rattle.json.specs.Lex.{tokens}
 use Rattle.jp_document.specs.Value.{IsDocumentValue, Value, null}
 use Rattle.jp_reading.proofs.Conjunctions.{and-both}
@@ -42,7 +42,7 @@ kept-allowed (OfRoot names) v u (inr is) valid =
 kept-allowed (OfItems names) v u (inl same) valid = subst IsDocumentValue (sym same) valid
 kept-allowed (OfItems names) v u (inr is) valid =
     subst IsDocumentValue (sym is) (picked-allowed (is_listed names.items) v valid)
-kept-allowed (Anywhere name) v u is valid = allowed-thinned name.now v u is valid
+kept-allowed (Anywhere name) v u is valid = allowed-thinned (string_bytes name) v u is valid
 
 meaning-kept : (asked : AskedFor) (bytes : List ℕ) (t : Shown) (i : Item)
     (x : KeepsFlatText asked bytes t i) → meaning t i ≡ x.kept

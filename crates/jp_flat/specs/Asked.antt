@@ -1,9 +1,9 @@
 -- What is kept of a document of which a query asks only for some members (RFC 9535 section 2.3.1).
 use Rattle.std.specs.Prelude.{◌≡◌, ℕ, Bool, true, false, List, [], ◌∷◌, ◌||◌, ◌⊎◌}
-use Rattle.std.specs.Prelude.{if◌then◌else◌}
-use Rattle.std.specs.Borrow.{Bor}
+use Rattle.std.specs.Prelude.{if◌then◌else◌, String, string_bytes}
 use Rattle.std.specs.Cmp.Lexicographic.{slice_cmp}
 use Rattle.std.specs.Ordering.{is_eq, nat_cmp}
+use Rattle.std.specs.declared.alloc.Global.{Global}
 use Rattle.jp_document.specs.Document.{IsDocument}
 use Rattle.jp_document.specs.Value.{Value, null, boolean, whole, text, list, object}
 use Rattle.jp_document.specs.Value.{Items, no_items, item, Members, no_members, member}
@@ -17,9 +17,9 @@ abbrev pub is_name : List ℕ → List ℕ → Bool
 is_name n m = is_eq (slice_cmp nat_cmp n m)
 
 -- the name is one of these
-abbrev pub is_listed : List (Bor (List ℕ)) → List ℕ → Bool
+abbrev pub is_listed : List (String Global) → List ℕ → Bool
 is_listed [] m = false
-is_listed (n ∷ ns) m = is_name n.now m || is_listed ns m
+is_listed (n ∷ ns) m = is_name (string_bytes n) m || is_listed ns m
 
 -- the members whose names pass the test
 abbrev pub members_named : (List ℕ → Bool) → Members → Members
@@ -80,7 +80,7 @@ mutual
 abbrev pub IsKept : AskedFor → Value → Value → Type 0
 IsKept (OfRoot names) d u = (u ≡ d) ⊎ (u ≡ with_members (is_listed names.items) d)
 IsKept (OfItems names) d u = (u ≡ d) ⊎ (u ≡ with_items_of (is_listed names.items) d)
-IsKept (Anywhere name) d u = IsThinned name.now d u
+IsKept (Anywhere name) d u = IsThinned (string_bytes name) d u
 
 -- the bytes are a document, of which so much is kept as that is asked of it
 pub record IsReadFor (asked : AskedFor) (bytes : List ℕ) (f : Flat) : Type 0 where

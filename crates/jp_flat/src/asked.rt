@@ -15,20 +15,20 @@ use crate::thinning::thin_value;
 
 /// What a query asks of a document. What it does not ask for may be left out of the tables.
 #[derive(Drop)]
-pub enum AskedFor<'q> {
+pub enum AskedFor {
     /// Of the document, if this is an object, the members of these names.
-    OfRoot(Vec<&'q str>),
+    OfRoot(Vec<String>),
     /// Of the objects that are items of the document, if this is a list, the members of these names.
-    OfItems(Vec<&'q str>),
+    OfItems(Vec<String>),
     /// Of each object the member of this name, and what lists and objects are members of it.
-    Anywhere(&'q str),
+    Anywhere(String),
 }
 
 /// Reads the value of a whole text, of which what is not asked for may be left out.
 pub(crate) fn kept_root(
     tables: &mut Tables<'_>,
     pending: &mut Pending,
-    asked: &AskedFor<'_>,
+    asked: &AskedFor,
 ) -> Option<Item>
     ensures { IfSome result (KeepsFlatText asked.now tables.old.text.now (shown tables.new)) }
 {
@@ -42,7 +42,7 @@ fn kept_value(
     tables: &mut Tables<'_>,
     pending: &mut Pending,
     reader: &mut Cursor<'_>,
-    asked: &AskedFor<'_>,
+    asked: &AskedFor,
 ) -> Option<Item>
     requires { reader.old.text ≡ tables.old.text.now }
     ensures { IfSome result (KeepsFlat (IsKept asked.now) most_levels reader.old.tokens
@@ -58,7 +58,7 @@ fn kept_value(
             Some(item)
         }
         AskedFor::Anywhere(name) => {
-            let item = thin_value(tables, pending, reader, MAX_DEPTH, name)?;
+            let item = thin_value(tables, pending, reader, MAX_DEPTH, name.as_str())?;
             Some(item)
         }
     }

@@ -17,13 +17,13 @@ use crate::reading::{Pending, lone_value};
 use crate::spans::text_span;
 use crate::tables::Tables;
 use crate::token::{Spelled, Token};
-use jp_document::Step;
+use jp_document::OwnedStep;
 
 /// What is sought in a list or an object: in its part at a step, the value at the rest of a location.
 #[derive(Clone, Copy)]
 struct Sought<'l> {
-    step: Step<'l>,
-    rest: &'l [Step<'l>],
+    step: &'l OwnedStep,
+    rest: &'l [OwnedStep],
 }
 
 /// Reads one value, and finds in it the value at a location, if one is given.
@@ -34,7 +34,7 @@ pub(crate) fn find(
     pending: &mut Pending,
     reader: &mut Cursor<'_>,
     depth: usize,
-    location: Option<&[Step<'_>]>,
+    location: Option<&[OwnedStep]>,
 ) -> Option<Option<Item>>
     requires { reader.old.text ≡ tables.old.text.now }
     ensures finds { IfSome result (FindsAt depth reader.old.tokens reader.new.tokens (shown tables.new)
@@ -51,7 +51,7 @@ pub(crate) fn find(
             Some(Some(item))
         }
         Some([step, rest @ ..]) => {
-            let sought = Sought { step: *step, rest };
+            let sought = Sought { step, rest };
             find_inside(tables, pending, reader, depth, sought)
         }
         None => {
@@ -156,7 +156,11 @@ fn find_member(
 
 /// What is found so far, with what a later part has, if it is the one that is sought.
 #[inline(always)]
-fn found_later(found: Option<Item>, inside: Option<&[Step<'_>]>, item: Option<Item>) -> Option<Item>
+fn found_later(
+    found: Option<Item>,
+    inside: Option<&[OwnedStep]>,
+    item: Option<Item>,
+) -> Option<Item>
     ensures { result ≡ later (location_of inside.entry) found item }
 {
     if inside.is_some() { item } else { found }
@@ -164,12 +168,12 @@ fn found_later(found: Option<Item>, inside: Option<&[Step<'_>]>, item: Option<It
 
 /// What is sought in the item with this index.
 #[inline(always)]
-fn item_sought<'l>(sought: Sought<'l>, index: u32) -> Option<&'l [Step<'l>]>
+fn item_sought<'l>(sought: Sought<'l>, index: u32) -> Option<&'l [OwnedStep]>
     ensures { location_of result ≡ sought_at (nth index) (Some (whole_location sought.entry)) }
 {
     let Sought { step, rest } = sought;
     match step {
-        Step::Index(wanted) if wanted == u64::from(index) => Some(rest),
+        OwnedStep::Index(wanted) if *wanted == u64::from(index) => Some(rest),
         _ => None,
     }
 }
@@ -181,7 +185,7 @@ fn member_sought<'l>(
     tables: &mut Tables<'_>,
     sought: Sought<'l>,
     name: Spelled<'_>,
-) -> Option<Option<&'l [Step<'l>]>>
+) -> Option<Option<&'l [OwnedStep]>>
     requires { IsSpelledIn tables.old.text.now name }
     ensures sought { IfSome result (λ inside. IsSoughtIn name.entry (Some (whole_location
         sought.entry)) (location_of inside)) }
@@ -199,12 +203,12 @@ fn member_sought<'l>(
 
 /// What is sought in the member with the name of these bytes.
 #[inline(always)]
-fn sought_by<'l>(sought: Sought<'l>, name: &[u8]) -> Option<&'l [Step<'l>]>
+fn sought_by<'l>(sought: Sought<'l>, name: &[u8]) -> Option<&'l [OwnedStep]>
     ensures { location_of result ≡ sought_at (named name.now) (Some (whole_location sought.entry)) }
 {
     let Sought { step, rest } = sought;
     match step {
-        Step::Name(wanted) if is_same(wanted, name) => Some(rest),
+        OwnedStep::Name(wanted) if is_same(wanted.as_str(), name) => Some(rest),
         _ => None,
     }
 }

@@ -2,7 +2,7 @@
 
 ghost use Rattle.std.specs.Prelude.{◌≡◌, [], true, IfOk, IfSome, OnSome, Some, map, option_map, string_bytes};
 ghost use Rattle.jp_document.specs.Document.{IsDocument};
-ghost use Rattle.jp_document.specs.Location.{step_of};
+ghost use Rattle.jp_document.specs.Location.{owned_step};
 ghost use Rattle.jp_flat.specs.Flat.{is_flat, meaning, shown};
 ghost use Rattle.jp_flat.specs.Private.Reading.{ReadsFlatText};
 ghost use Rattle.jp_flat.specs.Room.{IsIdle};
@@ -15,7 +15,7 @@ use crate::of_tree::put_value;
 use crate::reading::{Pending, lone_value};
 use crate::tables::{MAX_DEPTH, Tables, parts_in};
 use crate::value_at::value_in;
-use jp_document::{DocumentValue, Step};
+use jp_document::{DocumentValue, OwnedStep};
 use std::alloc::{AllocError, Global};
 
 /// A document in tables, which are made of its text.
@@ -176,7 +176,7 @@ impl Room {
 
     /// The document that these bytes are, in this memory, of which what is not asked for may be left
     /// out. An `Err` gives the memory back, and says nothing of the bytes.
-    pub fn read_asked<'t>(self, bytes: &'t [u8], asked: &AskedFor<'_>) -> Result<Flat<'t>, Room>
+    pub fn read_asked<'t>(self, bytes: &'t [u8], asked: &AskedFor) -> Result<Flat<'t>, Room>
         ensures { IfOk result (IsReadFor asked.now bytes.now) }
     {
         let Ok(text) = simdutf8::basic::from_utf8(bytes) else {
@@ -200,8 +200,8 @@ impl Room {
     /// The value at this location of the document that these bytes are, or that it has none there. It is
     /// found while the document is read, and takes no memory for what stands elsewhere but for texts
     /// with escapes on the way to it. An `Err` gives the memory back, and says nothing of the bytes.
-    pub fn read_at<'t>(self, bytes: &'t [u8], location: &[Step<'_>]) -> Result<Found<'t>, Room>
-        ensures { IfOk result (λ f. IsValueAt bytes.now (map step_of location.now) (flat_found f)) }
+    pub fn read_at<'t>(self, bytes: &'t [u8], location: &[OwnedStep]) -> Result<Found<'t>, Room>
+        ensures { IfOk result (λ f. IsValueAt bytes.now (map owned_step location.now) (flat_found f)) }
     {
         let Ok(text) = simdutf8::basic::from_utf8(bytes) else {
             return Err(self);

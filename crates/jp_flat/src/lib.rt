@@ -9,13 +9,14 @@
 //! let flat = flat_document(alloc, b"{\"a\":[1,2]}")?;
 //! let (_, list) = flat.value().member("a")?;     // [1,2]
 //! let flat = flat.into_room().read(b"[3]")?;     // the next one, in the same memory
-//! let found = flat.into_room().read_at(b"{\"a\":[1,2]}", &[Step::Name("a"), Step::Index(0)])?;    // 1
-//! let asked = AskedFor::OfItems(vec![in alloc; "a"]?);
+//! let a = OwnedStep::Name(String::from_str(alloc, "a")?);
+//! let found = flat.into_room().read_at(b"{\"a\":[1,2]}", &[a, OwnedStep::Index(0)])?;    // 1
+//! let asked = AskedFor::OfItems(vec![in alloc; String::from_str(alloc, "a")?]?);
 //! let flat = found.into_room().read_asked(b"[{\"a\":1,\"b\":2}]", &asked)?;      // [{"a":1}]
 //! ```
 //!
 //! For the layer above: what is read is a document, with its value in `specs/FlatValue.antt`, or what
-//! is kept of it in `specs/AskedFor.antt`, and each call at a value answers as at a `DocumentValue`. Where
+//! is kept of it in `specs/Asked.antt`, and each call at a value answers as at a `DocumentValue`. Where
 //! nothing is read, nothing is said of the bytes: `jp_held`, above this crate, tells what is wrong with
 //! them.
 #![tactic(auto)]

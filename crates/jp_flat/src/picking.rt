@@ -27,7 +27,7 @@ pub(crate) fn picked_list(
     pending: &mut Pending,
     reader: &mut Cursor<'_>,
     depth: usize,
-    names: &[&str],
+    names: &[String],
 ) -> Option<Item>
     requires { reader.old.text ≡ tables.old.text.now }
     ensures keeps { IfSome result (KeepsFlat (λ v u. u ≡ with_items_of (is_listed names.now) v) depth
@@ -54,7 +54,7 @@ fn picked_items(
     pending: &mut Pending,
     reader: &mut Cursor<'_>,
     depth: usize,
-    names: &[&str],
+    names: &[String],
 ) -> Option<Item>
     requires { reader.old.text ≡ tables.old.text.now }
     ensures keeps { IfSome result (KeepsFlatItems (λ v u. u ≡ with_items_of (is_listed names.now) v)
@@ -77,7 +77,7 @@ pub(crate) fn picked_object(
     pending: &mut Pending,
     reader: &mut Cursor<'_>,
     depth: usize,
-    names: &[&str],
+    names: &[String],
 ) -> Option<Item>
     requires { reader.old.text ≡ tables.old.text.now }
     ensures keeps { IfSome result (KeepsFlat (λ v u. u ≡ with_members (is_listed names.now) v) depth
@@ -108,7 +108,7 @@ fn picked_members(
     pending: &mut Pending,
     reader: &mut Cursor<'_>,
     depth: usize,
-    names: &[&str],
+    names: &[String],
 ) -> Option<Item>
     requires { reader.old.text ≡ tables.old.text.now }
     ensures keeps { IfSome result (KeepsFlatMembers (λ v u. u ≡ with_members (is_listed names.now) v)
@@ -143,7 +143,7 @@ fn picked_members(
 
 /// Whether a name is one of these. None where its escapes are none, or no memory is left to undo them.
 #[inline(always)]
-fn is_picked(tables: &mut Tables<'_>, names: &[&str], name: Spelled<'_>) -> Option<bool>
+fn is_picked(tables: &mut Tables<'_>, names: &[String], name: Spelled<'_>) -> Option<bool>
     requires { IsSpelledIn tables.old.text.now name }
     ensures picked { IfSome result (IsSaidAmong names.now name.entry) }
     ensures grows { OnSome result (Grows (shown tables.old) (shown tables.new)) }
@@ -160,12 +160,12 @@ fn is_picked(tables: &mut Tables<'_>, names: &[&str], name: Spelled<'_>) -> Opti
 
 /// Whether the bytes are one of these names.
 #[inline(always)]
-fn is_one_of(names: &[&str], bytes: &[u8]) -> bool
+fn is_one_of(names: &[String], bytes: &[u8]) -> bool
     ensures { result ≡ is_listed names.now bytes.now }
 {
     let mut at = 0;
     'names: while at < names.len() {
-        if is_name(names[at], bytes) {
+        if is_name(names[at].as_str(), bytes) {
             return true;
         }
         at += 1;

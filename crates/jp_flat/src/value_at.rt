@@ -1,7 +1,7 @@
 //! One value of a document, without the others.
 
 ghost use Rattle.std.specs.Prelude.{◌≡◌, IfSome, map};
-ghost use Rattle.jp_document.specs.Location.{step_of};
+ghost use Rattle.jp_document.specs.Location.{owned_step};
 ghost use Rattle.jp_flat.specs.Flat.{shown};
 ghost use Rattle.jp_flat.specs.Private.Found.{FindsInText};
 
@@ -10,15 +10,15 @@ use crate::finding::find;
 use crate::item::Item;
 use crate::reading::Pending;
 use crate::tables::{MAX_DEPTH, Tables};
-use jp_document::Step;
+use jp_document::OwnedStep;
 
 /// Reads a whole text, and finds the value at a location.
 pub(crate) fn value_in(
     tables: &mut Tables<'_>,
     pending: &mut Pending,
-    location: &[Step<'_>],
+    location: &[OwnedStep],
 ) -> Option<Option<Item>>
-    ensures { IfSome result (FindsInText tables.old.text.now (shown tables.new) (map step_of
+    ensures { IfSome result (FindsInText tables.old.text.now (shown tables.new) (map owned_step
         location.now)) }
 {
     let mut reader = Cursor::new(tables.text.as_bytes());

@@ -1,7 +1,7 @@
 -- What is read of a document of which a portion is wanted.
 use Rattle.std.specs.Prelude.{◌≡◌, ℕ, List, map}
 use Rattle.jp_document.specs.Document.{IsDocument}
-use Rattle.jp_document.specs.Location.{step_of}
+use Rattle.jp_document.specs.Location.{owned_step}
 use Rattle.jp_flat.specs.Asked.{IsReadFor}
 use Rattle.jp_flat.specs.FlatValue.{IsValueAt, document_in, flat_found}
 use Rattle.jp_held.specs.declared.portion.Excerpt.{Excerpt}
@@ -13,7 +13,7 @@ use Rattle.jp_held.specs.declared.portion.Portion.TheVariants.{Value, Members, W
 -- so much as is asked of it; or all of it
 abbrev pub IsExcerpt : Portion → List ℕ → Excerpt → Type 0
 IsExcerpt (Value l) bytes (read.Value k found) =
-    (k.now ≡ l.items) × IsValueAt bytes (map step_of k.now) (flat_found found)
+    (k.now ≡ l.items) × IsValueAt bytes (map owned_step k.now) (flat_found found)
 IsExcerpt (Members asked) bytes (read.Document f) = IsReadFor asked bytes f
 IsExcerpt Whole bytes (read.Document f) = IsDocument bytes (document_in f)
 IsExcerpt (Value l) bytes (read.Document f) = ⊥

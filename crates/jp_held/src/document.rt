@@ -3,7 +3,9 @@
 ghost use Rattle.std.specs.Prelude.{◌≡◌, map, option_map, IfOk, IfErr};
 ghost use Rattle.jp_document.specs.Value.{IsDocumentValue, value_of};
 
-use jp_document::{DocumentFault, DocumentValue, Json, Node, OwnedLocation, Step, parsed_value};
+use jp_document::{
+    DocumentFault, DocumentValue, Json, Node, OwnedLocation, OwnedStep, Step, parsed_value,
+};
 use jp_flat::{flat_document, is_no_json};
 use jp_lent::json_of;
 use std::alloc::Global;
@@ -20,7 +22,7 @@ impl Document {
     ghost use Rattle.jp_document.specs.Document.{IsDocument, IsDocumentFault};
     ghost use Rattle.jp_held.specs.Held.{document_of};
     ghost use Rattle.jp_document.specs.DocumentValue.{lent_value};
-    ghost use Rattle.jp_document.specs.Location.{step_of, value_at};
+    ghost use Rattle.jp_document.specs.Location.{owned_step, step_of, value_at};
     ghost use Rattle.jp_document.specs.Node.{StandsIn, node_of, root_of};
 
     /// The document that these bytes are. Refused are: bytes that `serde_json` reads no value from,
@@ -82,20 +84,11 @@ impl Document {
         ensures { option_map (λ j. value_of j.now) result
             ≡ value_at (document_of self.now) (map step_of location.now) }
     {
-        let value = self.value_at(location)?;
-        Some(value.json())
-    }
-
-    /// The value at a location, to go on from; None where there is none.
-    pub(crate) fn value_at(&self, location: &[Step]) -> Option<DocumentValue<'_>>
-        ensures { option_map lent_value result
-            ≡ value_at (document_of self.now) (map step_of location.now) }
-    {
         let mut value = self.value();
         for step in location {
             value = value.at_step(*step)?;
         }
-        Some(value)
+        Some(value.json())
     }
 
     /// The value at a location that borrows nothing, None where there is none.
@@ -103,10 +96,19 @@ impl Document {
         ensures { option_map (λ j. value_of j.now) result
             ≡ value_at (document_of self.now) location.now }
     {
+        let value = self.value_at(location.steps())?;
+        Some(value.json())
+    }
+
+    /// The value at the location of these steps, to go on from; None where there is none.
+    pub(crate) fn value_at(&self, steps: &[OwnedStep]) -> Option<DocumentValue<'_>>
+        ensures { option_map lent_value result
+            ≡ value_at (document_of self.now) (map owned_step steps.now) }
+    {
         let mut found = self.value();
-        for step in location.steps() {
+        for step in steps {
             found = found.at_step(step.as_step())?;
         }
-        Some(found.json())
+        Some(found)
     }
 }

@@ -20,5 +20,5 @@ mod portion;
 mod reading;
 
 pub use document::Document;
-pub use portion::{Excerpt, Portion};
+pub use portion::{Excerpt, Portion, push_location};
 pub use reading::{read_asked, read_flat, read_into, read_portion, read_value_into};

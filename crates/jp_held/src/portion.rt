@@ -1,29 +1,34 @@
 //! How much of a document is wanted, and what is read of it for that.
 
-use jp_document::Step;
+ghost use Rattle.std.specs.Prelude.{◌≡◌, ◌++◌, OnOk, map, string_bytes};
+ghost use Rattle.jp_document.specs.Location.{owned_step};
+ghost use Rattle.jp_document.specs.Path.{path_of};
+
+use jp_document::{OwnedStep, push_step};
 use jp_flat::{AskedFor, Flat, Found, Room};
+use std::alloc::AllocError;
 
 /// How much of a document is wanted.
 #[derive(Drop)]
-pub enum Portion<'q> {
+pub enum Portion {
     /// The value at this location.
-    Value(Vec<Step<'q>>),
+    Value(Vec<OwnedStep>),
     /// What is asked of it. The rest may be left out.
-    Members(AskedFor<'q>),
+    Members(AskedFor),
     /// All of it.
     Whole,
 }
 
 /// What was read of a document, in tables.
 #[derive(Drop)]
-pub enum Excerpt<'p, 'q, 't> {
+pub enum Excerpt<'p, 't> {
     /// The document, of which what is not wanted may be left out.
     Document(Flat<'t>),
     /// What the document has at this location.
-    Value(&'p [Step<'q>], Found<'t>),
+    Value(&'p [OwnedStep], Found<'t>),
 }
 
-impl<'p, 'q, 't> Excerpt<'p, 'q, 't> {
+impl<'p, 't> Excerpt<'p, 't> {
     /// The memory, for the next document.
     pub fn into_room(self) -> Room {
         match self {
@@ -31,4 +36,17 @@ impl<'p, 'q, 't> Excerpt<'p, 'q, 't> {
             Excerpt::Value(_, found) => found.into_room(),
         }
     }
+}
+
+/// Appends the normalized path of a location that is wanted (RFC 9535 section 2.7). The only error is that
+/// memory ran out.
+pub fn push_location(out: &mut String, location: &[OwnedStep]) -> Result<(), AllocError>
+    ensures { OnOk result
+        (string_bytes out.new ≡ string_bytes out.old ++ path_of (map owned_step location.now)) }
+{
+    out.push('$')?;
+    for step in location {
+        push_step(out, step.as_step())?;
+    }
+    Ok(())
 }

@@ -5,14 +5,14 @@
 
 ghost use Rattle.std.specs.Prelude.{◌≡◌, IfErr, IfOk, map};
 ghost use Rattle.jp_document.specs.Document.{IsDocument, IsDocumentFault};
-ghost use Rattle.jp_document.specs.Location.{step_of};
+ghost use Rattle.jp_document.specs.Location.{owned_step};
 ghost use Rattle.jp_flat.specs.Asked.{IsReadFor};
 ghost use Rattle.jp_flat.specs.FlatValue.{IsValueAt, document_in, flat_found};
 ghost use Rattle.jp_held.specs.Portions.{IsExcerpt};
 
 use crate::document::Document;
 use crate::portion::{Excerpt, Portion};
-use jp_document::{DocumentFault, Step};
+use jp_document::{DocumentFault, OwnedStep};
 use jp_flat::{AskedFor, Flat, Found, Room, flat_document};
 use std::alloc::Global;
 
@@ -30,12 +30,12 @@ pub fn read_flat(alloc: Global, bytes: &[u8]) -> Result<Flat<'_>, DocumentFault>
 
 /// So much of the document that these bytes are as is wanted, in the memory of other documents, which an
 /// `Err` gives back; else what is wrong with them, as `read_flat` says: with what is not wanted, too.
-pub fn read_portion<'p, 'q, 't>(
+pub fn read_portion<'p, 't>(
     alloc: Global,
     room: Room,
     bytes: &'t [u8],
-    portion: &'p Portion<'q>,
-) -> Result<Excerpt<'p, 'q, 't>, (Room, DocumentFault)>
+    portion: &'p Portion,
+) -> Result<Excerpt<'p, 't>, (Room, DocumentFault)>
     ensures ok { IfOk result (IsExcerpt portion.now bytes.now) }
     ensures fault { IfErr result (λ e. IsDocumentFault bytes.now e.1) }
 {
@@ -75,10 +75,10 @@ pub fn read_value_into<'t>(
     alloc: Global,
     room: Room,
     bytes: &'t [u8],
-    location: &[Step<'_>],
+    location: &[OwnedStep],
 ) -> Result<Found<'t>, (Room, DocumentFault)>
     ensures ok { IfOk result
-        (λ f. IsValueAt bytes.now (map step_of location.now) (flat_found f)) }
+        (λ f. IsValueAt bytes.now (map owned_step location.now) (flat_found f)) }
     ensures fault { IfErr result (λ e. IsDocumentFault bytes.now e.1) }
 {
     match room.read_at(bytes, location) {
@@ -97,7 +97,7 @@ pub fn read_asked<'t>(
     alloc: Global,
     room: Room,
     bytes: &'t [u8],
-    asked: &AskedFor<'_>,
+    asked: &AskedFor,
 ) -> Result<Flat<'t>, (Room, DocumentFault)>
     ensures ok { IfOk result (IsReadFor asked.now bytes.now) }
     ensures fault { IfErr result (λ e. IsDocumentFault bytes.now e.1) }
@@ -124,9 +124,9 @@ fn read_by_tree<'t>(alloc: Global, bytes: &[u8]) -> Result<Flat<'t>, DocumentFau
 fn value_by_tree<'t>(
     alloc: Global,
     bytes: &[u8],
-    location: &[Step<'_>],
+    location: &[OwnedStep],
 ) -> Result<Option<Flat<'t>>, DocumentFault>
-    ensures ok { IfOk result (IsValueAt bytes.now (map step_of location.now)) }
+    ensures ok { IfOk result (IsValueAt bytes.now (map owned_step location.now)) }
     ensures fault { IfErr result (IsDocumentFault bytes.now) }
 {
     let document = Document::parsed(alloc, bytes)?;

@@ -28,9 +28,9 @@ use std::mem;
 
 /// What is asked of each line.
 #[derive(Clone, Copy)]
-pub(crate) struct Asked<'q, 'p> {
+pub(crate) struct Asked<'q> {
     pub(crate) alloc: Global,
-    pub(crate) task: Task<'q, 'p>,
+    pub(crate) task: Task<'q>,
     pub(crate) options: Options,
     /// What the reports of this input begin with: its name, a colon and a space, or nothing.
     pub(crate) lead: &'q str,
@@ -81,7 +81,7 @@ fn is_blank_line(line: &[u8]) -> bool
 /// Writes what is asked of the line's document, or answers the line's defect and writes nothing. Of
 /// a line with more than `DOCUMENT_LIMIT` bytes, one byte more than that is enough.
 pub(crate) fn answer<W: Writer>(
-    asked: Asked<'_, '_>,
+    asked: Asked<'_>,
     number: u64,
     line: &[u8],
     memory: &mut Memory,
@@ -115,8 +115,8 @@ pub(crate) fn answer<W: Writer>(
 /// Answers a line that is not blank with what is selected in it. So much of the document is read as the
 /// query's plan says.
 fn answer_selection<W: Writer>(
-    asked: Asked<'_, '_>,
-    selection: Selection<'_, '_>,
+    asked: Asked<'_>,
+    selection: Selection<'_>,
     number: u64,
     line: &[u8],
     memory: &mut Memory,
@@ -146,10 +146,10 @@ fn answer_selection<W: Writer>(
 
 /// Writes what is asked of the nodes that a selection has in what was read of a document for it.
 fn write_read<W: Writer>(
-    asked: Asked<'_, '_>,
-    selection: Selection<'_, '_>,
+    asked: Asked<'_>,
+    selection: Selection<'_>,
     number: u64,
-    read: &Excerpt<'_, '_, '_>,
+    read: &Excerpt<'_, '_>,
     memory: &mut Memory,
     output: &mut W,
 ) -> Result<Reply, Fault>
@@ -186,8 +186,8 @@ fn write_read<W: Writer>(
 /// Answers a line that is not blank with what is asked of its document, of which so much is read as the
 /// task's plan says.
 fn answer_document<W: Writer>(
-    asked: Asked<'_, '_>,
-    plan: &Plan<'_>,
+    asked: Asked<'_>,
+    plan: &Plan,
     number: u64,
     line: &[u8],
     memory: &mut Memory,

@@ -17,7 +17,7 @@ const RECORD_SEPARATOR: u8 = 0x1e;
 /// What is told behind the defect of a line that is told, which has that defect: why and where it is no
 /// document, where that is asked for, and else nothing, as where there is no memory for it.
 pub(crate) fn explanation(
-    asked: Asked<'_, '_>,
+    asked: Asked<'_>,
     is_told: bool,
     number: u64,
     line: &[u8],

@@ -18,7 +18,7 @@ use jp_match::Marks;
 
 /// Writes the line behind the text `lead`, where the expression is true of its document.
 pub(crate) fn write_kept<'d: 'q, 'q, V: Selectable + 'd, W: Writer>(
-    asked: Asked<'q, '_>,
+    asked: Asked<'q>,
     filter: &'q CheckedFilter,
     lead: &str,
     line: &[u8],

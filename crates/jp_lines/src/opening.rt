@@ -35,7 +35,7 @@ pub(crate) enum Cut {
 /// `passed` is what the run has come to. After an input that can't be opened or read the run goes on
 /// only where it is to, and its inputs are named.
 pub(crate) fn pass_inputs<I: Inputs, W: Output, E: Writer>(
-    asked: Asked<'_, '_>,
+    asked: Asked<'_>,
     named: &[&str],
     passed: &mut Passed,
     inputs: &mut I,
@@ -69,7 +69,7 @@ fn inputs_of<'n>(named: &'n [&'n str]) -> &'n [&'n str]
 
 /// Goes over the next input.
 fn pass_next<I: Inputs, W: Output, E: Writer>(
-    asked: Asked<'_, '_>,
+    asked: Asked<'_>,
     named: &[&str],
     name: &str,
     passed: &mut Passed,
@@ -112,7 +112,7 @@ fn pass_next<I: Inputs, W: Output, E: Writer>(
 
 /// Opens an input, and goes over its lines.
 fn pass_input<I: Inputs, W: Output, E: Writer>(
-    asked: Asked<'_, '_>,
+    asked: Asked<'_>,
     name: &str,
     inputs: &mut I,
     output: &mut W,
@@ -147,7 +147,7 @@ fn cut_of(ended: Result<(), Stop>) -> Result<(), Cut>
 
 /// Tells that an input was not read to its end, where the run goes on after it.
 fn leave<E: Writer>(
-    asked: Asked<'_, '_>,
+    asked: Asked<'_>,
     named: &[&str],
     name: &str,
     why: Unread,

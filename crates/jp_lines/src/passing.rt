@@ -49,7 +49,7 @@ impl Progress {
 /// Goes over the next bytes of the input. A line that has grown too large is refused before its end
 /// where the run does not go on after it.
 pub(crate) fn pass<W: Output, E: Writer>(
-    asked: Asked<'_, '_>,
+    asked: Asked<'_>,
     progress: &mut Progress,
     bytes: &[u8],
     output: &mut W,
@@ -95,7 +95,7 @@ fn keep(line: &mut Vec<u8>, bytes: &[u8]) -> Result<(), AllocError>
 
 /// Treats the line that has ended, and begins the next one.
 pub(crate) fn end_line<W: Output, E: Writer>(
-    asked: Asked<'_, '_>,
+    asked: Asked<'_>,
     progress: &mut Progress,
     output: &mut W,
     faults: &mut E,

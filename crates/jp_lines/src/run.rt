@@ -106,7 +106,7 @@ fn run_selected<R: Source, W: Output, E: Writer>(
 
 /// Runs a task over an input that has no name.
 fn pass_alone<R: Source, W: Output, E: Writer>(
-    asked: Asked<'_, '_>,
+    asked: Asked<'_>,
     input: &mut R,
     output: &mut W,
     faults: &mut E,
@@ -129,7 +129,7 @@ fn pass_alone<R: Source, W: Output, E: Writer>(
 /// Goes over the lines of an input with a task. Answers what they count, or those before a stop, and how
 /// it ended.
 pub(crate) fn pass_all<R: Source, W: Output, E: Writer>(
-    asked: Asked<'_, '_>,
+    asked: Asked<'_>,
     input: &mut R,
     output: &mut W,
     faults: &mut E,
@@ -146,7 +146,7 @@ pub(crate) fn pass_all<R: Source, W: Output, E: Writer>(
 
 /// Goes over an input from the start of the first line on; what is counted stands in `progress`.
 fn pass_reads<R: Source, W: Output, E: Writer>(
-    asked: Asked<'_, '_>,
+    asked: Asked<'_>,
     progress: &mut Progress,
     input: &mut R,
     output: &mut W,

@@ -126,7 +126,7 @@ fn run_columns<'w, I: Inputs, W: Output, E: Writer>(
 /// Goes over all inputs with a task, and flushes the output.
 fn run_task<I: Inputs, W: Output, E: Writer>(
     alloc: Global,
-    task: Task<'_, '_>,
+    task: Task<'_>,
     job: &Job<'_>,
     inputs: &mut I,
     output: &mut W,

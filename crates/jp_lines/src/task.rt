@@ -30,35 +30,35 @@ pub(crate) struct Job<'w> {
 
 /// What a run does with each document.
 #[derive(Clone, Copy)]
-pub(crate) enum Task<'q, 'p> {
-    Select(Selection<'q, 'p>),
-    Keep(Keeping<'q, 'p>),
-    Tabulate(Columns<'q, 'p>),
+pub(crate) enum Task<'q> {
+    Select(Selection<'q>),
+    Keep(Keeping<'q>),
+    Tabulate(Columns<'q>),
 }
 
 /// Writes what is wanted of the nodes that the query selects.
 #[derive(Clone, Copy)]
-pub(crate) struct Selection<'q, 'p> {
+pub(crate) struct Selection<'q> {
     pub(crate) wanted: Wanted,
     pub(crate) extent: Extent,
     pub(crate) query: &'q Checked,
     /// How much of a document is read for the query.
-    pub(crate) plan: &'q Plan<'p>,
+    pub(crate) plan: &'q Plan,
 }
 
 /// Writes the line where the expression is true.
 #[derive(Clone, Copy)]
-pub(crate) struct Keeping<'q, 'p> {
+pub(crate) struct Keeping<'q> {
     pub(crate) filter: &'q CheckedFilter,
     /// How much of a document is read for the expression.
-    pub(crate) plan: &'q Plan<'p>,
+    pub(crate) plan: &'q Plan,
 }
 
 /// Writes a row in this style, with a cell for each query.
 #[derive(Clone, Copy)]
-pub(crate) struct Columns<'q, 'p> {
+pub(crate) struct Columns<'q> {
     pub(crate) style: Style,
     pub(crate) queries: &'q [Checked],
     /// How much of a document is read for the queries.
-    pub(crate) plan: &'q Plan<'p>,
+    pub(crate) plan: &'q Plan,
 }

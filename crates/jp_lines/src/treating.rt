@@ -23,7 +23,7 @@ use std::alloc::{AllocError, Global};
 /// Writes what is asked of a line's document, or tells that the line is refused; answers what it and the
 /// lines before it count. Of the line it takes what is kept of it.
 pub(crate) fn treat<W: Output, E: Writer>(
-    asked: Asked<'_, '_>,
+    asked: Asked<'_>,
     number: u64,
     before: Tally,
     kept: &[u8],
@@ -76,7 +76,7 @@ pub(crate) fn flush<W: Output>(is_asked_for: bool, output: &mut W) -> Result<(),
 /// Tells that a line, of which this is kept, is refused for that defect, where the run goes on after it and fewer than are
 /// to be told are refused before it.
 fn refuse<E: Writer>(
-    asked: Asked<'_, '_>,
+    asked: Asked<'_>,
     number: u64,
     before: u64,
     kept: &[u8],

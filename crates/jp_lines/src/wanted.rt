@@ -34,7 +34,7 @@ use jp_command::{
     Fault, Form, SelectionFault, Spare, Writer, push_found, selected_lines, write_all,
     write_selected,
 };
-use jp_document::Step;
+use jp_document::OwnedStep;
 use jp_lent::Selectable;
 use jp_limit::OutputLimit;
 use jp_select::Steps;
@@ -43,7 +43,7 @@ use std::alloc::{AllocError, Global};
 /// Writes what is asked of the document whose value is the root, in this line of the input, or answers
 /// that the steps did not suffice for it.
 pub(crate) fn write_for<'d: 'q, 'q, V: Selectable + 'd, W: Writer>(
-    asked: Asked<'q, '_>,
+    asked: Asked<'q>,
     number: u64,
     line: &[u8],
     root: V,
@@ -81,8 +81,8 @@ pub(crate) fn write_for<'d: 'q, 'q, V: Selectable + 'd, W: Writer>(
 
 /// Writes what is asked of the nodes that a selection has in the document whose value is the root.
 pub(crate) fn write_selection<'d: 'q, 'q, V: Selectable + 'd, W: Writer>(
-    asked: Asked<'q, '_>,
-    selection: Selection<'q, '_>,
+    asked: Asked<'q>,
+    selection: Selection<'q>,
     number: u64,
     root: V,
     memory: &mut Memory,
@@ -110,8 +110,8 @@ pub(crate) fn write_selection<'d: 'q, 'q, V: Selectable + 'd, W: Writer>(
 
 /// Writes the row of a document. Nothing is written before all of the row is made.
 fn write_columns<'d: 'q, 'q, V: Selectable + 'd, W: Writer>(
-    asked: Asked<'q, '_>,
-    columns: Columns<'q, '_>,
+    asked: Asked<'q>,
+    columns: Columns<'q>,
     number: u64,
     root: V,
     memory: &mut Memory,
@@ -210,8 +210,8 @@ fn mark_between(format: Format) -> char
 
 /// Writes what is asked of the nodes that a selection has in a document, behind the text `lead`.
 fn write_wanted<'d: 'q, 'q, V: Selectable + 'd, W: Writer>(
-    asked: Asked<'q, '_>,
-    selection: Selection<'q, '_>,
+    asked: Asked<'q>,
+    selection: Selection<'q>,
     lead: &str,
     root: V,
     spare: &mut Spare,
@@ -275,8 +275,8 @@ fn write_wanted<'d: 'q, 'q, V: Selectable + 'd, W: Writer>(
 /// Writes that with the steps that are allowed, by way of memory: nothing is written before all of it is
 /// made, and is no more than may come out of one document.
 fn write_whole<'d: 'q, 'q, V: Selectable + 'd, W: Writer>(
-    asked: Asked<'q, '_>,
-    selection: Selection<'q, '_>,
+    asked: Asked<'q>,
+    selection: Selection<'q>,
     lead: &str,
     allowed: Steps,
     root: V,
@@ -311,8 +311,8 @@ fn write_whole<'d: 'q, 'q, V: Selectable + 'd, W: Writer>(
 /// Makes `spare.line` what is asked of the document whose value is the root, and answers how many nodes
 /// it is of.
 fn make_wanted<'d: 'q, 'q, V: Selectable + 'd>(
-    asked: Asked<'q, '_>,
-    selection: Selection<'q, '_>,
+    asked: Asked<'q>,
+    selection: Selection<'q>,
     lead: &str,
     root: V,
     spare: &mut Spare,
@@ -368,10 +368,10 @@ fn make_wanted<'d: 'q, 'q, V: Selectable + 'd>(
 /// Writes what is asked of a document in which the query selects the value at the location alone, or
 /// nothing where there is none.
 pub(crate) fn write_wanted_at<V: Selectable, W: Writer>(
-    asked: Asked<'_, '_>,
+    asked: Asked<'_>,
     wanted: Wanted,
     number: u64,
-    location: &[Step<'_>],
+    location: &[OwnedStep],
     value: Option<V>,
     memory: &mut Memory,
     output: &mut W,
@@ -405,7 +405,7 @@ pub(crate) fn write_wanted_at<V: Selectable, W: Writer>(
 fn push_found_behind<V: Selectable>(
     form: Form,
     lead: &str,
-    location: &[Step<'_>],
+    location: &[OwnedStep],
     value: Option<V>,
     line: &mut String,
 ) -> Result<(), AllocError>

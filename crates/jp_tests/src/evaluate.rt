@@ -9,7 +9,7 @@ mod truth;
 use jp_check::{Profile, read_query};
 use jp_document::path_text;
 use jp_evaluate::{Plan, evaluate, nodes};
-use jp_held::{Document, Portion};
+use jp_held::{Document, Portion, push_location};
 use jp_lent::value_text;
 use jp_match::Marks;
 use std::alloc::Global;
@@ -117,7 +117,11 @@ fn named_locations(rt: HostRuntime) -> Result<(), Fail> {
             .ok_or("refused")?;
         let plan = Plan::of(alloc, &query)?;
         let text = match plan.portion() {
-            Portion::Value(location) => Some(path_text(alloc, location)?),
+            Portion::Value(location) => {
+                let mut path = String::new(alloc);
+                push_location(&mut path, location)?;
+                Some(path)
+            }
             Portion::Members(_) | Portion::Whole => None,
         };
         assert_eq!(rt; text.as_ref().map(|text| text.as_str()), path);

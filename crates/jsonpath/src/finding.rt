@@ -1,11 +1,12 @@
 //! A query over a document, in one call.
 
 ghost use Rattle.std.specs.Prelude.{◌≡◌, ◌≤◌, ◌+◌, ◌++◌, ◌∷◌, [], IfErr, IfOk, OnOk};
-ghost use Rattle.std.specs.Prelude.{false, length, map, option_map, option_to_list};
+ghost use Rattle.std.specs.Prelude.{false, length, map, option_map, option_to_list, string_bytes};
 ghost use Rattle.std.specs.Str.{chars};
 ghost use Rattle.jp_check.specs.Accepted.{IsAcceptedAs};
 ghost use Rattle.jp_held.specs.Held.{document_of};
-ghost use Rattle.jp_document.specs.Location.{step_of};
+ghost use Rattle.jp_document.specs.Location.{owned_step, step_of};
+ghost use Rattle.jp_document.specs.Text.{text_of};
 ghost use Rattle.jp_document.specs.Node.{node_at, node_of};
 ghost use Rattle.jp_evaluate.specs.Lent.{has_failed, rest_of, steps_of};
 ghost use Rattle.jp_evaluate.specs.Nodelist.{nodelist};
@@ -23,10 +24,10 @@ ghost use Rattle.jsonpath.specs.declared.fault.FindFault.TheVariants.{StepsUsedU
 use crate::fault::FindFault;
 use crate::size::check_size;
 use jp_check::{Checked, Profile, read_query};
-use jp_document::{Node, Step, path_text};
+use jp_document::{Node, OwnedStep, Step, path_text};
 use jp_evaluate::{LentNodes, Patterns, Plan, evaluate, lent_nodes_with};
 use jp_flat::FlatValue;
-use jp_held::{Document, Excerpt};
+use jp_held::{Document, Excerpt, push_location};
 use jp_lent::value_text;
 use jp_limit::OutputLimit;
 use jp_match::Marks;
@@ -99,7 +100,7 @@ fn matches_read(
     alloc: Global,
     limit: OutputLimit,
     query: &Checked,
-    read: &Excerpt<'_, '_, '_>,
+    read: &Excerpt<'_, '_>,
     steps: &mut Steps,
 ) -> Result<Vec<Match>, FindFault>
     ensures found { IfOk result (λ found. map match_texts found.items
@@ -153,19 +154,19 @@ fn matches_below(
 fn matches_at(
     alloc: Global,
     limit: OutputLimit,
-    location: &[Step<'_>],
+    location: &[OwnedStep],
     value: Option<FlatValue<'_, '_>>,
     steps: &mut Steps,
 ) -> Result<Vec<Match>, FindFault>
     ensures found { IfOk result (λ found. map match_texts found.items
-        ≡ map texts_of (map (node_at (map step_of location.now))
+        ≡ map texts_of (map (node_at (map owned_step location.now))
         (option_to_list (option_map lent_flat value.entry)))) }
     ensures within { IfOk result (λ found.
         StaysWithin limit (length found.items) (bytes_of (map match_texts found.items))) }
     ensures given_up { IfErr result (IsGivenUp limit
-        (length (map (node_at (map step_of location.now))
+        (length (map (node_at (map owned_step location.now))
         (option_to_list (option_map lent_flat value.entry))))
-        (bytes_of (map texts_of (map (node_at (map step_of location.now))
+        (bytes_of (map texts_of (map (node_at (map owned_step location.now))
         (option_to_list (option_map lent_flat value.entry)))))) }
     ensures takes { Takes steps.old steps.new }
     ensures stopped { IfErr result (λ fault. fault ≡ StepsUsedUp → IsSpent steps.new) }
@@ -181,7 +182,8 @@ fn matches_at(
     if limit.most_nodes() == 0 {
         return Err(FindFault::TooManyNodes);
     }
-    push_match(alloc, location, value, 0, limit.most_bytes(), &mut found)?;
+    let made = match_found(alloc, location, value)?;
+    add_within(made, 0, limit.most_bytes(), &mut found)?;
     Ok(found)
 }
 
@@ -237,6 +239,17 @@ fn push_match(
         (node_at (map step_of location.now) (lent_flat value.entry))))) }
 {
     let made = match_at(alloc, location, value)?;
+    add_within(made, size, most, found)
+}
+
+/// Adds a match to those before, which have so many bytes, and answers how many they have then. There may be
+/// `most`.
+fn add_within(made: Match, size: u64, most: u64, found: &mut Vec<Match>) -> Result<u64, FindFault>
+    ensures pushed { OnOk result
+        (map match_texts found.new.items ≡ map match_texts found.old.items ++ match_texts made ∷ []) }
+    ensures sum { IfOk result (λ sum. (sum ≡ size + texts_size (match_texts made)) × (sum ≤ most)) }
+    ensures beyond { IfErr result (IsPast size most (texts_size (match_texts made))) }
+{
     let sum = size_with(size, &made, most)?;
     add(found, made)?;
     Ok(sum)
@@ -252,6 +265,28 @@ fn match_at(
         ≡ texts_of (node_at (map step_of location.now) (lent_flat value.entry))) }
 {
     let path = path_text(alloc, location)?;
+    match_with(alloc, path, value)
+}
+
+/// The texts of the node that was found at this location with this value.
+fn match_found(
+    alloc: Global,
+    location: &[OwnedStep],
+    value: FlatValue<'_, '_>,
+) -> Result<Match, AllocError>
+    ensures { IfOk result (λ made. match_texts made
+        ≡ texts_of (node_at (map owned_step location.now) (lent_flat value.entry))) }
+{
+    let mut path = String::new(alloc);
+    push_location(&mut path, location)?;
+    match_with(alloc, path, value)
+}
+
+/// The texts of a node with this path and this value.
+fn match_with(alloc: Global, path: String, value: FlatValue<'_, '_>) -> Result<Match, AllocError>
+    ensures { IfOk result (λ made. match_texts made
+        ≡ (string_bytes path, text_of (lent_flat value.entry))) }
+{
     let value = value_text(alloc, value)?;
     Ok(Match { path, value })
 }

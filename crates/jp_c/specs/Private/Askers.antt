@@ -1,14 +1,10 @@
 -- What is asked with a kept query, and how it is told. The clauses of `Asker` cite it.
-use Rattle.std.specs.Prelude.{◌≡◌, ◌⊎◌, ◌++◌, ℕ, List, None, Option, length}
+use Rattle.std.specs.Prelude.{◌≡◌, ◌⊎◌, ℕ, None, Option, length}
 use Rattle.std.specs.Prelude.{string_bytes}
 use Rattle.std.specs.String.{string_vec}
 use Rattle.std.specs.Vec.{vec_ptr}
-use Rattle.jp_command.specs.Lines.{lines_of}
 use Rattle.jp_command.specs.declared.lines.Form.{Form}
-use Rattle.jp_document.specs.Document.{IsDocument}
-use Rattle.jp_document.specs.Location.{Location}
 use Rattle.jp_document.specs.Value.{Value}
-use Rattle.jp_evaluate.specs.Named.{NamesLocation, nodes_at}
 use Rattle.jp_flat.specs.FlatValue.{document_in}
 use Rattle.jp_limit.specs.OutputLimit.{StaysWithin}
 use Rattle.jp_limit.specs.declared.output_limit.OutputLimit.{OutputLimit}
@@ -25,14 +21,6 @@ use Rattle.jp_c.specs.declared.lent.Lent.{Lent}
 use Rattle.jp_c.specs.declared.outcome.Outcome as outcome
 use Rattle.jp_c.specs.declared.outcome.Outcome.TheVariants.{Text, Usage, Fault, Misread}
 use Rattle.jp_c.specs.declared.outcome.Report.{Report}
-
--- the query names a location, and behind the text `before` stand the lines of the node there
-pub record AnswersNamed (form : Form) (q : QueryTree) (bytes before after : List ℕ) : Type 0 where
-  pub l : Location
-  pub d : Value
-  pub names : NamesLocation q l
-  pub document : IsDocument bytes d
-  pub lines : after ≡ before ++ lines_of form (nodes_at l d)
 
 -- the text that is kept with the query is lent
 pub record LendsText (a : Asker) (lent : Lent) : Type 0 where

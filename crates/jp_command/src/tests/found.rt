@@ -1,10 +1,12 @@
 //! What is written of the node that was found at a location, and of none.
 
 use super::devices::Drip;
-use crate::{Device, Fault, Form, lines_at, write_found};
-use jp_document::{DocumentValue, Step};
+use crate::{Device, Fault, Form, push_found, write_found};
+use jp_document::{DocumentValue, read_path};
 use jp_held::Document;
 use std::test::Fail;
+
+const PATH: &str = "$['a'][0]['b']";
 
 /// What stands before each line.
 const LEAD: &str = "7\t";
@@ -16,19 +18,22 @@ const LINE: &str = "7\t$['a'][0]['b']\t[null]\n";
 fn lines_of_found_nodes(rt: HostRuntime) -> Result<(), Fail> {
     let alloc = rt.alloc();
     let document = Document::read(alloc, b"[null]")?;
-    let location = [Step::Name("a"), Step::Index(0), Step::Name("b")];
+    let location = read_path(alloc, PATH).ok().ok_or("no path")?;
+    let location = location.steps();
     for (form, line) in [
         (Form::Values, "[null]\n"),
         (Form::Paths, "$['a'][0]['b']\n"),
         (Form::Both, "$['a'][0]['b']\t[null]\n"),
     ] {
-        let found = lines_at(alloc, form, &location, Some(document.value()))?;
+        let mut found = String::new(alloc);
+        push_found(form, location, Some(document.value()), &mut found)?;
         assert_eq!(rt; found.as_str(), line);
     }
-    let root = lines_at(alloc, Form::Both, &[], Some(document.value()))?;
-    assert_eq!(rt; root.as_str(), "$\t[null]\n");
+    let mut lines = String::from_str(alloc, "before\n")?;
+    push_found(Form::Both, &[], Some(document.value()), &mut lines)?;
     let none: Option<DocumentValue<'_>> = None;
-    assert_eq!(rt; lines_at(alloc, Form::Both, &location, none)?.as_str(), "");
+    push_found(Form::Both, location, none, &mut lines)?;
+    assert_eq!(rt; lines.as_str(), "before\n$\t[null]\n");
     Ok(())
 }
 
@@ -36,7 +41,8 @@ fn lines_of_found_nodes(rt: HostRuntime) -> Result<(), Fail> {
 fn found_nodes_written_until_a_write_fails(rt: HostRuntime) -> Result<(), Fail> {
     let alloc = rt.alloc();
     let document = Document::read(alloc, b"[null]")?;
-    let location = [Step::Name("a"), Step::Index(0), Step::Name("b")];
+    let location = read_path(alloc, PATH).ok().ok_or("no path")?;
+    let location = location.steps();
     for taken in 0..=LINE.len() {
         let mut drip = Drip::new(alloc, 1);
         drip.failing = taken.saturating_add(1);
@@ -45,7 +51,7 @@ fn found_nodes_written_until_a_write_fails(rt: HostRuntime) -> Result<(), Fail> 
             alloc,
             Form::Both,
             LEAD,
-            &location,
+            location,
             Some(document.value()),
             &mut line,
             &mut Device::new(&mut drip),

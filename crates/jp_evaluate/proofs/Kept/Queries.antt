@@ -1,7 +1,6 @@
 -- Queries that ask for no more than the names that were told.
-use Rattle.std.proofs.Common.{◌≡◌, ℕ, Bool, true, List, [], ◌∷◌, Some, None, Vec}
+use Rattle.std.proofs.Common.{◌≡◌, ℕ, Bool, true, List, [], ◌∷◌, Some, None, String, Vec, string_bytes}
 use Rattle.std.proofs.Common.{length, ◌≢◌, map, refl, ap, inl, inr, subst, sym, ◌∙◌}
-use Rattle.std.specs.Borrow.{Bor}
 use Rattle.std.specs.Ordering.{is_eq}
 use Rattle.std.specs.declared.alloc.Global.{Global}
 use Rattle.jp_document.proofs.Descent.Steps.{step_same}
@@ -24,21 +23,21 @@ use Rattle.jp_evaluate.proofs.Kept.Anywhere.{nodelist-anywhere}
 use Rattle.jp_evaluate.proofs.Kept.Items.{nodelist-items}
 use Rattle.jp_evaluate.proofs.Nodelists.Along.{of_segments}
 
-pass-weaker : (p q : List ℕ → Bool) (ns : List (Bor (List ℕ)))
+pass-weaker : (p q : List ℕ → Bool) (ns : List (String Global))
     → ((m : List ℕ) → p m ≡ true → q m ≡ true) → pass p ns ≡ true → pass q ns ≡ true
 pass-weaker p q [] each all = refl
 pass-weaker p q (n ∷ ns) each all =
-    and-both (q n.now) (pass q ns) (each n.now (and-left _ _ all))
+    and-both (q (string_bytes n)) (pass q ns) (each (string_bytes n) (and-left _ _ all))
     (pass-weaker p q ns each (and-right _ _ all))
 
 -- names are among themselves
-pub pass-itself : (ns : List (Bor (List ℕ))) → pass (is_listed ns) ns ≡ true
+pub pass-itself : (ns : List (String Global)) → pass (is_listed ns) ns ≡ true
 pass-itself [] = refl
 pass-itself (n ∷ ns) =
-    and-both (is_listed (n ∷ ns) n.now) (pass (is_listed (n ∷ ns)) ns)
-    (or-left (is_name n.now n.now) (is_listed ns n.now) (ap is_eq (step_same (named n.now))))
+    and-both (is_listed (n ∷ ns) (string_bytes n)) (pass (is_listed (n ∷ ns)) ns)
+    (or-left (is_name (string_bytes n) (string_bytes n)) (is_listed ns (string_bytes n)) (ap is_eq (step_same (named (string_bytes n)))))
     (pass-weaker (is_listed ns) (is_listed (n ∷ ns)) ns
-    (λ m among. or-right (is_name n.now m) (is_listed ns m) among) (pass-itself ns))
+    (λ m among. or-right (is_name (string_bytes n) m) (is_listed ns m) among) (pass-itself ns))
 
 -- several selectors or none have no only name
 pub only_name-several : (xs : List Selector) → length xs ≢ 1
@@ -53,15 +52,15 @@ by-tree : (q : Query) (d u : Value)
     → nodelist (query_of q) u ≡ nodelist (query_of q) d
 by-tree q d u same = subst (λ t. nodelist t u ≡ nodelist t d) (sym (query_of-is q)) same
 
-pub anywhere-asks : (q : Query) (xs : List Segment) (k : Bor (List ℕ))
-    → xs ≡ (out-Query q).segments.items → Some k.now ≡ asked_anywhere (of_segments xs)
+pub anywhere-asks : (q : Query) (xs : List Segment) (k : String Global)
+    → xs ≡ (out-Query q).segments.items → Some (string_bytes k) ≡ asked_anywhere (of_segments xs)
     → AsksNoMore (query_of q) (Anywhere k)
 anywhere-asks q xs k are is = λ d u thin.
     by-tree q d u
-    (nodelist-anywhere k.now (out-Query q).absolute (of_segments (out-Query q).segments.items) d u
+    (nodelist-anywhere (string_bytes k) (out-Query q).absolute (of_segments (out-Query q).segments.items) d u
     (ap (λ ys. asked_anywhere (of_segments ys)) (sym are) ∙ sym is) thin)
 
-pub items-ask : (q : Query) (xs : List Segment) (ns : Vec (Bor (List ℕ)) Global)
+pub items-ask : (q : Query) (xs : List Segment) (ns : Vec (String Global) Global)
     → xs ≡ (out-Query q).segments.items
     → AskedOf ns.items (λ p. asks_items p (of_segments xs))
     → AsksNoMore (query_of q) (OfItems ns)

@@ -1,7 +1,6 @@
 -- Of the document itself other members may be missing than those that queries, or an expression, ask for.
-use Rattle.std.proofs.Common.{◌≡◌, ℕ, Bool, true, List, [], ◌∷◌, Vec, All}
+use Rattle.std.proofs.Common.{◌≡◌, ℕ, Bool, true, List, [], ◌∷◌, String, Vec, All}
 use Rattle.std.proofs.Common.{ap, inl, inr, sym, ◌∙◌}
-use Rattle.std.specs.Borrow.{Bor}
 use Rattle.std.specs.declared.alloc.Global.{Global}
 use Rattle.std.proofs.lemmas.List.Elements.{All-cons, All-nil}
 use Rattle.jp_document.specs.Node.{root_of}
@@ -32,7 +31,7 @@ root-kept : (p : List ℕ → Bool) (q : QueryTree) (d : Value) → asks_root p 
     → nodelist q (with_members p d) ≡ nodelist q d
 root-kept p (query absolute all) d asks = nodelist-members p absolute all d asks
 
-root-asks : (q : QueryTree) (ns : Vec (Bor (List ℕ)) Global)
+root-asks : (q : QueryTree) (ns : Vec (String Global) Global)
     → asks_root (is_listed ns.items) q ≡ true → AsksNoMore q (OfRoot ns)
 root-asks q ns asks = λ d u kept.
     elim kept [
@@ -40,7 +39,7 @@ root-asks q ns asks = λ d u kept.
       | inr is ↦ ap (nodelist q) is ∙ root-kept (is_listed ns.items) q d asks
     ]
 
-each-asks : (qs : List QueryTree) (ns : Vec (Bor (List ℕ)) Global)
+each-asks : (qs : List QueryTree) (ns : Vec (String Global) Global)
     → asks_each (is_listed ns.items) qs ≡ true → All (λ q. AsksNoMore q (OfRoot ns)) qs
 each-asks [] ns asks = All-nil (λ q. AsksNoMore q (OfRoot ns))
 each-asks (q ∷ qs) ns asks =
@@ -49,15 +48,15 @@ each-asks (q ∷ qs) ns asks =
 
 -- ---- by the names that were told
 
-pub query-asks-root : (q : QueryTree) (ns : Vec (Bor (List ℕ)) Global)
+pub query-asks-root : (q : QueryTree) (ns : Vec (String Global) Global)
     → AskedOf ns.items (λ p. asks_root p q) → AsksNoMore q (OfRoot ns)
 query-asks-root q ns asked = root-asks q ns (asked (is_listed ns.items) (pass-itself ns.items))
 
-pub queries-ask-root : (qs : List QueryTree) (ns : Vec (Bor (List ℕ)) Global)
+pub queries-ask-root : (qs : List QueryTree) (ns : Vec (String Global) Global)
     → AskedOf ns.items (λ p. asks_each p qs) → All (λ q. AsksNoMore q (OfRoot ns)) qs
 queries-ask-root qs ns asked = each-asks qs ns (asked (is_listed ns.items) (pass-itself ns.items))
 
-pub test-asks-root : (e : ExprTree) (ns : Vec (Bor (List ℕ)) Global)
+pub test-asks-root : (e : ExprTree) (ns : Vec (String Global) Global)
     → AskedOf ns.items (λ p. asks_expr p e) → TestsNoMore e (OfRoot ns)
 test-asks-root e ns asked = λ d u kept.
     let p = is_listed ns.items in

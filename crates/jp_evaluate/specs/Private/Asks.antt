@@ -1,8 +1,8 @@
 -- Queries that can be told to ask only for some members, where p tells the names of these.
 use Rattle.std.specs.Prelude.{◌≡◌, ℕ, Bool, true, false, ◌&&◌, if◌then◌else◌, List, [], ◌∷◌}
-use Rattle.std.specs.Prelude.{Option, Some, None}
-use Rattle.std.specs.Borrow.{Bor}
+use Rattle.std.specs.Prelude.{Option, Some, None, String, string_bytes}
 use Rattle.std.specs.Str.{encode_utf8_all}
+use Rattle.std.specs.declared.alloc.Global.{Global}
 use Rattle.jp_flat.specs.declared.asked.AskedFor.{AskedFor}
 use Rattle.jp_held.specs.declared.portion.Portion.{Portion}
 use Rattle.jp_held.specs.declared.portion.Portion.TheVariants.{Members, Whole}
@@ -140,17 +140,17 @@ portion_asked None = Whole
 -- ---- the names that were seen
 
 -- each of the names passes
-abbrev pub pass : (List ℕ → Bool) → List (Bor (List ℕ)) → Bool
+abbrev pub pass : (List ℕ → Bool) → List (String Global) → Bool
 pass p [] = true
-pass p (n ∷ ns) = p n.now && pass p ns
+pass p (n ∷ ns) = p (string_bytes n) && pass p ns
 
 -- where these names pass, so much is true
-abbrev pub AskedOf : List (Bor (List ℕ)) → ((List ℕ → Bool) → Bool) → Type 0
+abbrev pub AskedOf : List (String Global) → ((List ℕ → Bool) → Bool) → Type 0
 AskedOf ns asks = (p : List ℕ → Bool) → pass p ns ≡ true → asks p ≡ true
 
 -- what was told of a part of a query while the names ns became ms: those stand still, and where it
 -- was told, these are all that the part asks for
-pub record Collects (ns ms : List (Bor (List ℕ))) (asks : (List ℕ → Bool) → Bool) (is_told : Bool)
+pub record Collects (ns ms : List (String Global)) (asks : (List ℕ → Bool) → Bool) (is_told : Bool)
     : Type 0 where
   pub stand : AskedOf ms (λ p. pass p ns)
   pub told : is_told ≡ true → AskedOf ms asks

@@ -12,7 +12,7 @@ use jp_tree::{Argument, Call, Expr, Operand, Query, Subject};
 use std::alloc::AllocError;
 
 #[cycle(asked)]
-pub(crate) fn push_expr<'q>(test: &'q Expr, names: &mut Vec<&'q str>) -> Result<bool, AllocError>
+pub(crate) fn push_expr(test: &Expr, names: &mut Vec<String>) -> Result<bool, AllocError>
     ensures { IfOk result (Collects names.old.items names.new.items
         (λ p. asks_expr p (expr_of test.now))) }
 {
@@ -32,7 +32,7 @@ pub(crate) fn push_expr<'q>(test: &'q Expr, names: &mut Vec<&'q str>) -> Result<
 }
 
 #[cycle(asked)]
-fn push_parts<'q>(parts: &'q [Expr], names: &mut Vec<&'q str>) -> Result<bool, AllocError>
+fn push_parts(parts: &[Expr], names: &mut Vec<String>) -> Result<bool, AllocError>
     ensures { IfOk result (Collects names.old.items names.new.items
         (λ p. asks_exprs p (exprs (map expr_of parts.now)))) }
 {
@@ -45,7 +45,7 @@ fn push_parts<'q>(parts: &'q [Expr], names: &mut Vec<&'q str>) -> Result<bool, A
 }
 
 #[cycle(asked)]
-fn push_side<'q>(side: &'q Operand, names: &mut Vec<&'q str>) -> Result<bool, AllocError>
+fn push_side(side: &Operand, names: &mut Vec<String>) -> Result<bool, AllocError>
     ensures { IfOk result (Collects names.old.items names.new.items
         (λ p. asks_operand p (operand_of side.now))) }
 {
@@ -57,7 +57,7 @@ fn push_side<'q>(side: &'q Operand, names: &mut Vec<&'q str>) -> Result<bool, Al
 }
 
 #[cycle(asked)]
-fn push_call<'q>(call: &'q Call, names: &mut Vec<&'q str>) -> Result<bool, AllocError>
+fn push_call(call: &Call, names: &mut Vec<String>) -> Result<bool, AllocError>
     ensures { IfOk result (Collects names.old.items names.new.items
         (λ p. asks_call p (call_of call.now))) }
 {
@@ -70,7 +70,7 @@ fn push_call<'q>(call: &'q Call, names: &mut Vec<&'q str>) -> Result<bool, Alloc
 }
 
 #[cycle(asked)]
-fn push_argument<'q>(argument: &'q Argument, names: &mut Vec<&'q str>) -> Result<bool, AllocError>
+fn push_argument(argument: &Argument, names: &mut Vec<String>) -> Result<bool, AllocError>
     ensures { IfOk result (Collects names.old.items names.new.items
         (λ p. asks_argument p (argument_of argument.now))) }
 {
@@ -83,7 +83,7 @@ fn push_argument<'q>(argument: &'q Argument, names: &mut Vec<&'q str>) -> Result
 }
 
 /// A query from the root may ask for anything.
-fn push_query<'q>(query: &'q Query, names: &mut Vec<&'q str>) -> Result<bool, AllocError>
+fn push_query(query: &Query, names: &mut Vec<String>) -> Result<bool, AllocError>
     ensures { IfOk result (Collects names.old.items names.new.items
         (λ p. asks_query p (query_of query.now))) }
 {

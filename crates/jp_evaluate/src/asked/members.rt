@@ -11,9 +11,9 @@ use jp_tree::{Segment, Selector};
 use std::alloc::AllocError;
 
 /// Puts the names of the members that the segments ask for among others; whether these are told.
-pub(crate) fn push_members<'q>(
-    segments: &'q [Segment],
-    names: &mut Vec<&'q str>,
+pub(crate) fn push_members(
+    segments: &[Segment],
+    names: &mut Vec<String>,
 ) -> Result<bool, AllocError>
     ensures { IfOk result (Collects names.old.items names.new.items
         (λ p. asks_members p (segment_trees (map segment_of segments.now)))) }
@@ -27,7 +27,7 @@ pub(crate) fn push_members<'q>(
     push_names(&first.selectors, names)
 }
 
-fn push_names<'q>(selectors: &'q [Selector], names: &mut Vec<&'q str>) -> Result<bool, AllocError>
+fn push_names(selectors: &[Selector], names: &mut Vec<String>) -> Result<bool, AllocError>
     ensures { IfOk result (Collects names.old.items names.new.items
         (λ p. asks_names p (selector_trees (map selector_of selectors.now)))) }
 {
@@ -39,7 +39,7 @@ fn push_names<'q>(selectors: &'q [Selector], names: &mut Vec<&'q str>) -> Result
     Ok(true)
 }
 
-fn push_name_of<'q>(selector: &'q Selector, names: &mut Vec<&'q str>) -> Result<bool, AllocError>
+fn push_name_of(selector: &Selector, names: &mut Vec<String>) -> Result<bool, AllocError>
     ensures { IfOk result (Collects names.old.items names.new.items
         (λ p. asks_name p (selector_of selector.now))) }
 {

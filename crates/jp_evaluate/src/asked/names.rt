@@ -9,7 +9,7 @@ use std::alloc::AllocError;
 const MOST_NAMES: usize = 8;
 
 /// Puts a name among others, unless it is one of them; whether there was room for it.
-pub(crate) fn push_name<'q>(name: &'q str, names: &mut Vec<&'q str>) -> Result<bool, AllocError>
+pub(crate) fn push_name(name: &str, names: &mut Vec<String>) -> Result<bool, AllocError>
     ensures { IfOk result (Collects names.old.items names.new.items (λ p. p name.now)) }
 {
     if is_among(names, name) {
@@ -18,15 +18,16 @@ pub(crate) fn push_name<'q>(name: &'q str, names: &mut Vec<&'q str>) -> Result<b
     if names.len() >= MOST_NAMES {
         return Ok(false);
     }
+    let name = String::from_str(*names.allocator(), name)?;
     names.push(name)?;
     Ok(true)
 }
 
-fn is_among(names: &[&str], name: &str) -> bool
+fn is_among(names: &[String], name: &str) -> bool
     ensures { result ≡ true → AskedOf names.now (λ p. p name.now) }
 {
     for known in names {
-        if *known == name {
+        if known.as_str() == name {
             return true;
         }
     }

@@ -15,10 +15,10 @@ use std::alloc::{AllocError, Global};
 /// What several queries together ask of a document: over each document each of them selects the same
 /// nodes in what is kept of it. None where one of them is not told to ask only for members of the
 /// document itself. The only error is that memory ran out.
-pub(crate) fn asked_by_all<'q>(
+pub(crate) fn asked_by_all(
     alloc: Global,
-    queries: &'q [Checked],
-) -> Result<Option<AskedFor<'q>>, AllocError>
+    queries: &[Checked],
+) -> Result<Option<AskedFor>, AllocError>
     ensures { IfOk result (λ o. IfSome o
         (λ asked. All (λ q. AsksNoMore q asked) (map (λ c. query_of c.query) queries.now))) }
 {
@@ -31,10 +31,10 @@ pub(crate) fn asked_by_all<'q>(
 /// What an expression asks of a document that is its root and its current node: it is as true of what
 /// is kept of each. None where one of its queries is not told to ask only for members of the current
 /// node. The only error is that memory ran out.
-pub(crate) fn asked_by_test<'q>(
+pub(crate) fn asked_by_test(
     alloc: Global,
-    filter: &'q CheckedFilter,
-) -> Result<Option<AskedFor<'q>>, AllocError>
+    filter: &CheckedFilter,
+) -> Result<Option<AskedFor>, AllocError>
     ensures { IfOk result (λ o. IfSome o (TestsNoMore (expr_of filter.now.expr))) }
 {
     match names_of_test(alloc, filter.expr())? {
@@ -44,10 +44,10 @@ pub(crate) fn asked_by_test<'q>(
 }
 
 /// The names of all members that a query asks for of the document itself, None where it is not told.
-pub(crate) fn names_of_root<'q>(
+pub(crate) fn names_of_root(
     alloc: Global,
-    query: &'q Checked,
-) -> Result<Option<Vec<&'q str>>, AllocError>
+    query: &Checked,
+) -> Result<Option<Vec<String>>, AllocError>
     ensures { IfOk result (λ o. IfSome o
         (λ names. AskedOf names.items (λ p. asks_root p (query_of query.now.query)))) }
 {
@@ -60,7 +60,7 @@ pub(crate) fn names_of_root<'q>(
 }
 
 /// The names of all members that the expression asks for, None where it is not told.
-fn names_of_test<'q>(alloc: Global, test: &'q Expr) -> Result<Option<Vec<&'q str>>, AllocError>
+fn names_of_test(alloc: Global, test: &Expr) -> Result<Option<Vec<String>>, AllocError>
     ensures { IfOk result (λ o. IfSome o
         (λ names. AskedOf names.items (λ p. asks_expr p (expr_of test.now)))) }
 {
@@ -73,10 +73,7 @@ fn names_of_test<'q>(alloc: Global, test: &'q Expr) -> Result<Option<Vec<&'q str
 }
 
 /// The names of all members that the queries ask for, None where it is not told.
-fn names_of_each<'q>(
-    alloc: Global,
-    queries: &'q [Checked],
-) -> Result<Option<Vec<&'q str>>, AllocError>
+fn names_of_each(alloc: Global, queries: &[Checked]) -> Result<Option<Vec<String>>, AllocError>
     ensures { IfOk result (λ o. IfSome o (λ names. AskedOf names.items
         (λ p. asks_each p (map (λ c. query_of c.query) queries.now)))) }
 {
@@ -88,7 +85,7 @@ fn names_of_each<'q>(
     }
 }
 
-fn push_each<'q>(queries: &'q [Checked], names: &mut Vec<&'q str>) -> Result<bool, AllocError>
+fn push_each(queries: &[Checked], names: &mut Vec<String>) -> Result<bool, AllocError>
     ensures { IfOk result (Collects names.old.items names.new.items
         (λ p. asks_each p (map (λ c. query_of c.query) queries.now))) }
 {
@@ -100,7 +97,7 @@ fn push_each<'q>(queries: &'q [Checked], names: &mut Vec<&'q str>) -> Result<boo
     Ok(true)
 }
 
-fn push_root<'q>(query: &'q Checked, names: &mut Vec<&'q str>) -> Result<bool, AllocError>
+fn push_root(query: &Checked, names: &mut Vec<String>) -> Result<bool, AllocError>
     ensures { IfOk result (Collects names.old.items names.new.items
         (λ p. asks_root p (query_of query.now.query))) }
 {

@@ -4,12 +4,12 @@ use Rattle.std.specs.Prelude.{if◌then◌else◌, option_map}
 use Rattle.std.specs.Borrow.{Bor}
 use Rattle.std.specs.Ordering.{is_eq}
 use Rattle.json.specs.Token.{Token}
-use Rattle.jp_document.specs.Location.{Location, Step, named, step_cmp, step_of, value_at}
+use Rattle.jp_document.specs.Location.{Location, Step, named, owned_step, step_cmp, value_at}
 use Rattle.jp_flat.specs.Private.Integer.{whole_number}
 use Rattle.jp_flat.specs.Private.FromTokens.{ReadsItems, ReadsMembers, ReadsText, ReadsValue}
 use Rattle.jp_document.specs.Value.{Value, everywhere, everywhere_in_items, everywhere_in_members}
 use Rattle.jp_document.specs.Value.{items_of, list, list_fits, members_of, object}
-use Rattle.jp_document.specs.declared.location.Step as code
+use Rattle.jp_document.specs.declared.location.OwnedStep as code
 use Rattle.jp_flat.specs.Flat.{Shown, flat_value, most_levels}
 use Rattle.jp_flat.specs.Private.Tokens.{said}
 use Rattle.jp_flat.specs.declared.finding.Sought.{Sought}
@@ -17,12 +17,12 @@ use Rattle.jp_flat.specs.declared.item.Item.{Item}
 use Rattle.jp_flat.specs.declared.token.Spelled.{Spelled}
 
 -- the location of these steps, if there are some
-abbrev pub location_of : Option (Bor (List code.Step)) → Option Location
-location_of = option_map (λ steps. map step_of steps.now)
+abbrev pub location_of : Option (Bor (List code.OwnedStep)) → Option Location
+location_of = option_map (λ steps. map owned_step steps.now)
 
 -- the location that is sought in a list or an object
 abbrev pub whole_location : Sought → Location
-whole_location s = step_of s.step ∷ map step_of s.rest.now
+whole_location s = owned_step s.step.now ∷ map owned_step s.rest.now
 
 -- what is sought in the part at a step of a value in which that is sought
 abbrev pub sought_at : Step → Option Location → Option Location

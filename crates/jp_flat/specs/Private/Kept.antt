@@ -1,7 +1,7 @@
 -- What the tokens of a document are read as, where not all of it is kept.
 use Rattle.std.specs.Prelude.{◌≡◌, ◌⊎◌, ◌++◌, ◌∷◌, [], ℕ, suc, Bool, false, true, List}
-use Rattle.std.specs.Prelude.{IfSome, Some, drop, length}
-use Rattle.std.specs.Borrow.{Bor}
+use Rattle.std.specs.Prelude.{IfSome, Some, String, drop, length}
+use Rattle.std.specs.declared.alloc.Global.{Global}
 use Rattle.json.specs.Token.{Token}
 use Rattle.jp_document.specs.Value.{Value, everywhere, everywhere_in_items, everywhere_in_members}
 use Rattle.jp_document.specs.Value.{items_of, list, list_fits, members_of, object}
@@ -98,7 +98,7 @@ pub record IsPushed (before after : Shown) (name : Spelled) (i : Item) (rises st
   pub above : still ≡ true → IfSome (said name) (IsAboveLast before (drop base old))
 
 -- the name is spelled so, and it is one of these or not
-pub record IsSaidAmong (names : List (Bor (List ℕ))) (name : Spelled) (is : Bool) : Type 0 where
+pub record IsSaidAmong (names : List (String Global)) (name : Spelled) (is : Bool) : Type 0 where
   pub text : List ℕ
   pub says : said name ≡ Some text
   pub told : is ≡ is_listed names text

@@ -1,10 +1,10 @@
 //! What queries ask of a document.
 
 use jp_check::{Checked, Profile, read_filter, read_query};
-use jp_document::{Step, push_path};
+use jp_document::path_text;
 use jp_evaluate::{Plan, evaluate, lent_nodes};
 use jp_flat::{AskedFor, Room};
-use jp_held::{Document, Excerpt, Portion};
+use jp_held::{Document, Excerpt, Portion, push_location};
 use jp_lent::{Lent, push_value};
 use jp_match::Marks;
 use std::alloc::Global;
@@ -78,22 +78,30 @@ fn asked(alloc: Global, query: &str) -> Result<String, Fail> {
 }
 
 /// What is read by a plan, told so.
-fn told(alloc: Global, plan: &Plan<'_>) -> Result<String, Fail> {
+fn told(alloc: Global, plan: &Plan) -> Result<String, Fail> {
     match plan.portion() {
-        Portion::Members(AskedFor::OfRoot(names)) => text_of(alloc, "root", names),
-        Portion::Members(AskedFor::OfItems(names)) => text_of(alloc, "items", names),
-        Portion::Members(AskedFor::Anywhere(name)) => text_of(alloc, "anywhere", &[*name]),
+        Portion::Members(AskedFor::OfRoot(names)) => names_of(alloc, "root", names),
+        Portion::Members(AskedFor::OfItems(names)) => names_of(alloc, "items", names),
+        Portion::Members(AskedFor::Anywhere(name)) => text_of(alloc, "anywhere", name.as_str()),
         Portion::Value(_) => Ok(String::from_str(alloc, "value")?),
         Portion::Whole => Ok(String::from_str(alloc, "all")?),
     }
 }
 
+/// The text behind a word.
+fn text_of(alloc: Global, word: &str, text: &str) -> Result<String, Fail> {
+    let mut whole = String::from_str(alloc, word)?;
+    whole.push_str(" ")?;
+    whole.push_str(text)?;
+    Ok(whole)
+}
+
 /// The names behind a word.
-fn text_of(alloc: Global, word: &str, names: &[&str]) -> Result<String, Fail> {
+fn names_of(alloc: Global, word: &str, names: &[String]) -> Result<String, Fail> {
     let mut text = String::from_str(alloc, word)?;
     for name in names {
         text.push_str(" ")?;
-        text.push_str(name)?;
+        text.push_str(name.as_str())?;
     }
     Ok(text)
 }
@@ -101,7 +109,7 @@ fn text_of(alloc: Global, word: &str, names: &[&str]) -> Result<String, Fail> {
 #[test]
 fn members_of_the_root(rt: HostRuntime) -> Result<(), Fail> {
     for (query, names) in OF_ROOT {
-        let wanted = text_of(rt.alloc(), "root", &[names])?;
+        let wanted = text_of(rt.alloc(), "root", names)?;
         let found = asked(rt.alloc(), query)?;
         assert_eq!(rt; found.as_str(), wanted.as_str(), "{query}");
     }
@@ -163,7 +171,7 @@ fn members_for_an_expression(rt: HostRuntime) -> Result<(), Fail> {
 #[test]
 fn members_of_items(rt: HostRuntime) -> Result<(), Fail> {
     for (query, names) in OF_ITEMS {
-        let wanted = text_of(rt.alloc(), "items", &[names])?;
+        let wanted = text_of(rt.alloc(), "items", names)?;
         let found = asked(rt.alloc(), query)?;
         assert_eq!(rt; found.as_str(), wanted.as_str(), "{query}");
     }
@@ -204,7 +212,7 @@ fn planned_nodes(
     room: Room,
     text: &str,
     query: &Checked,
-    plan: &Plan<'_>,
+    plan: &Plan,
 ) -> Result<(String, Room), Fail> {
     let mut nodes = String::new(alloc);
     let Ok(read) = plan.read_into(alloc, room, text.as_bytes()) else {
@@ -218,12 +226,15 @@ fn planned_nodes(
                 let Some(next) = selected.next_at(&mut location) else {
                     break;
                 };
-                push_node(&mut nodes, &location, next?)?;
+                let path = path_text(alloc, &location)?;
+                push_node(&mut nodes, path.as_str(), next?)?;
             }
         }
         Excerpt::Value(location, found) => {
             if let Some(value) = found.value() {
-                push_node(&mut nodes, location, value)?;
+                let mut path = String::new(alloc);
+                push_location(&mut path, location)?;
+                push_node(&mut nodes, path.as_str(), value)?;
             }
         }
     }
@@ -235,14 +246,15 @@ fn all_nodes(alloc: Global, text: &str, query: &Checked) -> Result<String, Fail>
     let document = Document::read(alloc, text.as_bytes())?;
     let mut nodes = String::new(alloc);
     for node in evaluate(alloc, &document, query, &Marks)? {
-        push_node(&mut nodes, node.location(), node.value())?;
+        let path = path_text(alloc, node.location())?;
+        push_node(&mut nodes, path.as_str(), node.value())?;
     }
     Ok(nodes)
 }
 
-fn push_node<V: Lent>(nodes: &mut String, location: &[Step<'_>], value: V) -> Result<(), Fail> {
+fn push_node<V: Lent>(nodes: &mut String, path: &str, value: V) -> Result<(), Fail> {
     nodes.push(' ')?;
-    push_path(nodes, location)?;
+    nodes.push_str(path)?;
     nodes.push('=')?;
     push_value(nodes, value)?;
     Ok(())

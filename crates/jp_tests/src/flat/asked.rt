@@ -153,23 +153,31 @@ const WRONG_OBJECTS: [&str; 10] = [
 ];
 
 /// The compact text of what is kept of a document, None where tables do not hold it.
-fn kept_text(
-    alloc: Global,
-    text: &str,
-    asked: &AskedFor<'_>,
-) -> Result<Option<String>, AllocError> {
+fn kept_text(alloc: Global, text: &str, asked: &AskedFor) -> Result<Option<String>, AllocError> {
     match Room::new(alloc).read_asked(text.as_bytes(), asked) {
         Ok(flat) => Ok(Some(value_text(alloc, flat.value())?)),
         Err(_) => Ok(None),
     }
 }
 
-fn of_root(alloc: Global) -> Result<AskedFor<'static>, AllocError> {
-    Ok(AskedFor::OfRoot(vec![in alloc; "a", "bc"]?))
+fn names(alloc: Global) -> Result<Vec<String>, AllocError> {
+    let mut names = Vec::new(alloc);
+    for name in ["a", "bc"] {
+        names.push(String::from_str(alloc, name)?)?;
+    }
+    Ok(names)
 }
 
-fn of_items(alloc: Global) -> Result<AskedFor<'static>, AllocError> {
-    Ok(AskedFor::OfItems(vec![in alloc; "a", "bc"]?))
+fn of_root(alloc: Global) -> Result<AskedFor, AllocError> {
+    Ok(AskedFor::OfRoot(names(alloc)?))
+}
+
+fn of_items(alloc: Global) -> Result<AskedFor, AllocError> {
+    Ok(AskedFor::OfItems(names(alloc)?))
+}
+
+fn anywhere(alloc: Global) -> Result<AskedFor, AllocError> {
+    Ok(AskedFor::Anywhere(String::from_str(alloc, "a")?))
 }
 
 #[test]
@@ -197,8 +205,9 @@ fn members_of_items(rt: HostRuntime) -> Result<(), Fail> {
 
 #[test]
 fn members_anywhere(rt: HostRuntime) -> Result<(), Fail> {
+    let asked = anywhere(rt.alloc())?;
     for (text, wanted) in ANYWHERE {
-        let kept = kept_text(rt.alloc(), text, &AskedFor::Anywhere("a"))?;
+        let kept = kept_text(rt.alloc(), text, &asked)?;
         assert_eq!(rt; kept.as_deref(), Some(wanted), "{text}");
     }
     Ok(())
@@ -206,11 +215,11 @@ fn members_anywhere(rt: HostRuntime) -> Result<(), Fail> {
 
 #[test]
 fn wrong_where_nothing_is_asked_for(rt: HostRuntime) -> Result<(), Fail> {
-    let asked = of_items(rt.alloc())?;
+    let items = of_items(rt.alloc())?;
+    let anywhere = anywhere(rt.alloc())?;
     for text in WRONG {
-        assert_eq!(rt; kept_text(rt.alloc(), text, &asked)?, None, "{text}");
-        let anywhere = kept_text(rt.alloc(), text, &AskedFor::Anywhere("a"))?;
-        assert_eq!(rt; anywhere, None, "{text}");
+        assert_eq!(rt; kept_text(rt.alloc(), text, &items)?, None, "{text}");
+        assert_eq!(rt; kept_text(rt.alloc(), text, &anywhere)?, None, "{text}");
     }
     Ok(())
 }

@@ -1,19 +1,16 @@
 //! One value of a document, found while the document is read.
 
-use jp_document::Step;
+use jp_document::read_path;
 use jp_flat::{Found, Room};
 use jp_lent::value_text;
-use std::alloc::{AllocError, Global};
+use std::alloc::Global;
 use std::test::Fail;
 
-/// The compact text of what is found, None in it where there is nothing; None where the document is
-/// left to others.
-fn found_text(
-    alloc: Global,
-    text: &str,
-    location: &[Step<'_>],
-) -> Result<Option<Option<String>>, AllocError> {
-    let Ok(found) = Room::new(alloc).read_at(text.as_bytes(), location) else {
+/// The compact text of what is found at the location of a normalized path, None in it where there is
+/// nothing; None where the document is left to others.
+fn found_text(alloc: Global, text: &str, path: &str) -> Result<Option<Option<String>>, Fail> {
+    let location = read_path(alloc, path).ok().ok_or("no path")?;
+    let Ok(found) = Room::new(alloc).read_at(text.as_bytes(), location.steps()) else {
         return Ok(None);
     };
     let Some(value) = found.value() else {
@@ -27,38 +24,34 @@ const STORE: &str =
 
 #[test]
 fn values_at_locations(rt: HostRuntime) -> Result<(), Fail> {
-    let rows: [(&[Step<'_>], Option<&str>); 10] = [
-        (&[Step::Name("'"), Step::Name("@")], Some("2")),
-        (&[Step::Name("o"), Step::Name("j j")], Some(r#"{"k.k":3}"#)),
-        (&[Step::Name("a"), Step::Index(0)], Some("5")),
-        (
-            &[Step::Name("a"), Step::Index(1), Step::Name("b")],
-            Some("[]"),
-        ),
-        (&[Step::Name("a"), Step::Index(2)], Some(r#""a\\""#)),
-        (&[Step::Name("a"), Step::Index(4)], None),
-        (&[Step::Name("a"), Step::Name("b")], None),
-        (&[Step::Index(0)], None),
-        (&[Step::Name("e"), Step::Name("e")], None),
-        (&[Step::Name("x")], None),
+    let rows: [(&str, Option<&str>); 10] = [
+        (r"$['\'']['@']", Some("2")),
+        ("$['o']['j j']", Some(r#"{"k.k":3}"#)),
+        ("$['a'][0]", Some("5")),
+        ("$['a'][1]['b']", Some("[]")),
+        ("$['a'][2]", Some(r#""a\\""#)),
+        ("$['a'][4]", None),
+        ("$['a']['b']", None),
+        ("$[0]", None),
+        ("$['e']['e']", None),
+        ("$['x']", None),
     ];
-    for (location, wanted) in rows {
-        let found = found_text(rt.alloc(), STORE, location)?.ok_or("not read")?;
-        assert!(rt; found.as_deref() == wanted, "{location:?}");
+    for (path, wanted) in rows {
+        let found = found_text(rt.alloc(), STORE, path)?.ok_or("not read")?;
+        assert!(rt; found.as_deref() == wanted, "{path}");
     }
     Ok(())
 }
 
 #[test]
 fn the_root(rt: HostRuntime) -> Result<(), Fail> {
-    let found = found_text(rt.alloc(), r#"{"b":[ ],"a":1}"#, &[])?.ok_or("not read")?;
+    let found = found_text(rt.alloc(), r#"{"b":[ ],"a":1}"#, "$")?.ok_or("not read")?;
     assert_eq!(rt; found.as_deref(), Some(r#"{"a":1,"b":[]}"#));
     Ok(())
 }
 
 #[test]
 fn the_last_of_equal_names(rt: HostRuntime) -> Result<(), Fail> {
-    let location = [Step::Name("a"), Step::Index(1)];
     for (text, wanted) in [
         (r#"{"a":[0,1],"a":[2,3]}"#, Some("3")),
         (r#"{"a":[0,1],"a":[2]}"#, None),
@@ -71,7 +64,7 @@ fn the_last_of_equal_names(rt: HostRuntime) -> Result<(), Fail> {
         (r#"[{"a":[0,1]},1]"#, None),
         ("0", None),
     ] {
-        let found = found_text(rt.alloc(), text, &location)?.ok_or("not read")?;
+        let found = found_text(rt.alloc(), text, "$['a'][1]")?.ok_or("not read")?;
         assert_eq!(rt; found.as_deref(), wanted, "{text}");
     }
     Ok(())
@@ -89,10 +82,7 @@ fn what_is_no_document(rt: HostRuntime) -> Result<(), Fail> {
         r#"{"a":1,"b":[1,]}"#,
         r#"{"a":1,"b":18446744073709551616}"#,
     ] {
-        assert!(rt;
-            found_text(rt.alloc(), text, &[Step::Name("a")])?.is_none(),
-            "{text}"
-        );
+        assert!(rt; found_text(rt.alloc(), text, "$['a']")?.is_none(), "{text}");
     }
     Ok(())
 }
@@ -100,6 +90,7 @@ fn what_is_no_document(rt: HostRuntime) -> Result<(), Fail> {
 /// Values at locations of many documents, read into one memory.
 #[test]
 fn one_document_after_another(rt: HostRuntime) -> Result<(), Fail> {
+    let location = read_path(rt.alloc(), "$['a'][1]").ok().ok_or("no path")?;
     let mut room = Room::new(rt.alloc());
     let rows: [(&str, Option<&str>); 6] = [
         (r#"{"a":[0,["\u0061",{}]]}"#, Some(r#"["a",{}]"#)),
@@ -113,10 +104,7 @@ fn one_document_after_another(rt: HostRuntime) -> Result<(), Fail> {
         (r#"{"a":[7,8]}"#, Some("8")),
     ];
     for (text, wanted) in rows {
-        let (text, given_back) = match room.read_at(
-            text.as_bytes(),
-            &[Step::Name("a"), Step::Index(1)],
-        ) {
+        let (text, given_back) = match room.read_at(text.as_bytes(), location.steps()) {
             Ok(Found::Value(flat)) => {
                 (
                     Some(value_text(rt.alloc(), flat.value())?),

@@ -1,6 +1,6 @@
 //! The reader into tables beside `serde_json`.
 
-use jp_document::{Step, parsed_value};
+use jp_document::{OwnedStep, parsed_value, read_path};
 use jp_flat::{AskedFor, Room};
 use jp_held::{Document, Excerpt, Portion, read_flat, read_into, read_portion, read_value_into};
 use jp_lent::value_text;
@@ -134,7 +134,7 @@ fn documents_in_the_memory_of_others(rt: HostRuntime) -> Result<(), Fail> {
 
 #[test]
 fn values_at_a_location(rt: HostRuntime) -> Result<(), Fail> {
-    let location = [Step::Name("a"), Step::Index(1)];
+    let location = read_path(rt.alloc(), "$['a'][1]").ok().ok_or("no path")?;
     for text in [
         r#"{"a":[0,1],"a":[2,3]}"#,
         r#"{"a":[0,1],"a":[2]}"#,
@@ -147,7 +147,7 @@ fn values_at_a_location(rt: HostRuntime) -> Result<(), Fail> {
         "0",
     ] {
         let room = Room::new(rt.alloc());
-        let found = match read_value_into(rt.alloc(), room, text.as_bytes(), &location) {
+        let found = match read_value_into(rt.alloc(), room, text.as_bytes(), location.steps()) {
             Ok(found) => found,
             Err((_, fault)) => return Err(fault)?,
         };
@@ -156,7 +156,7 @@ fn values_at_a_location(rt: HostRuntime) -> Result<(), Fail> {
             None => None,
         };
         let document = Document::read(rt.alloc(), text.as_bytes())?;
-        let wanted = match document.at(&location) {
+        let wanted = match document.find(&location) {
             Some(value) => Some(value_text(rt.alloc(), value)?),
             None => None,
         };
@@ -170,7 +170,7 @@ fn portion_of(
     alloc: Global,
     room: Room,
     text: &str,
-    portion: &Portion<'_>,
+    portion: &Portion,
 ) -> Result<(Option<String>, Room), AllocError> {
     let read = match read_portion(alloc, room, text.as_bytes(), portion) {
         Ok(read) => read,
@@ -217,10 +217,12 @@ const PORTIONS: [(&str, [Option<&str>; 3]); 6] = [
 #[test]
 fn portions_in_the_memory_of_others(rt: HostRuntime) -> Result<(), Fail> {
     let alloc = rt.alloc();
-    let location = vec![in alloc; Step::Index(0), Step::Name("a")]?;
+    let name = String::from_str(alloc, "a")?;
+    let location = vec![in alloc; OwnedStep::Index(0), OwnedStep::Name(name)]?;
+    let asked = vec![in alloc; String::from_str(alloc, "a")?]?;
     let portions = [
         Portion::Value(location),
-        Portion::Members(AskedFor::OfItems(vec![in alloc; "a"]?)),
+        Portion::Members(AskedFor::OfItems(asked)),
         Portion::Whole,
     ];
     let mut room = Room::new(alloc);

@@ -1,5 +1,4 @@
-use Rattle.std.proofs.Common.{ℕ, IfSome, List, Vec, ap, subst, ◌∙◌}
-use Rattle.std.specs.Borrow.{Bor}
+use Rattle.std.proofs.Common.{IfSome, Some, String, Vec, ap, subst, ◌∙◌}
 use Rattle.std.specs.declared.alloc.Global.{Global}
 use Rattle.jp_tree.specs.Views.{query_of}
 use Rattle.jp_tree.specs.declared.tree.Query.{out-Query}
@@ -11,13 +10,13 @@ use Rattle.jp_evaluate.proofs.asked.asked_by.Goals as goal
 
 pub returns-in-Some : goal.returns-in-Some
 returns-in-Some c =
-    anywhere-asks c.args.query.now.query c.deref.result.now c.in-Some.name
+    anywhere-asks c.args.query.now.query c.deref.result.now c.in_ok-name.name
     (c.deref.ensures.value ∙ ap (λ q. (out-Query q).segments.items) c.query.ensures.same)
-    c.in-Some.ensures
+    (ap Some c.in_ok-name.ensures.ok ∙ c.in-Some.ensures)
 
 pub returns-in-Some-2 : goal.returns-in-Some-2
 returns-in-Some-2 c =
-    let P : Vec (Bor (List ℕ)) Global → Type 0 = λ ns.
+    let P : Vec (String Global) Global → Type 0 = λ ns.
     AskedOf ns.items (λ p. asks_items p (of_segments c.deref-2.result.now)) in
     let asked : P c.in-Some-2.names = subst (λ o. IfSome o P) c.in-Some-2.is c.in_ok-names.ensures in
     items-ask c.args.query.now.query c.deref-2.result.now c.in-Some-2.names
@@ -27,6 +26,6 @@ returns-in-Some-2 c =
 pub returns-in-Some-3 : goal.returns-in-Some-3
 returns-in-Some-3 c =
     let q = query_of c.args.query.now.query in
-    let P : Vec (Bor (List ℕ)) Global → Type 0 = λ ns. AskedOf ns.items (λ p. asks_root p q) in
+    let P : Vec (String Global) Global → Type 0 = λ ns. AskedOf ns.items (λ p. asks_root p q) in
     query-asks-root q c.in-Some-3.names
     (subst (λ o. IfSome o P) c.in-Some-3.is c.in_ok-names-2.ensures)

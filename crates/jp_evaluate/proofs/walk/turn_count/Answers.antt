@@ -1,5 +1,5 @@
 use Rattle.std.proofs.Common.{◌≡◌, ◌+◌, ◌<◌, ◌^◌, length, map, refl, ap, sym, ◌∙◌, arith, rules}
-use Rattle.jp_tree.specs.Tree.{segment, selectors}
+use Rattle.jp_tree.specs.Tree.{selectors}
 use Rattle.jp_tree.specs.Views.{selector_of}
 use Rattle.jp_tree.specs.declared.tree.Segment.{out-Segment}
 use Rattle.jp_evaluate.specs.Cost.{entering_cost, selector_count}

@@ -1,5 +1,4 @@
-use Rattle.std.proofs.Common.{ℕ, IfSome, List, Vec, subst}
-use Rattle.std.specs.Borrow.{Bor}
+use Rattle.std.proofs.Common.{IfSome, String, Vec, subst}
 use Rattle.std.specs.declared.alloc.Global.{Global}
 use Rattle.jp_flat.specs.declared.asked.AskedFor.TheVariants.{OfRoot}
 use Rattle.jp_tree.specs.Views.{expr_of}
@@ -11,7 +10,7 @@ use Rattle.jp_evaluate.proofs.asked.root.asked_by_test.Goals as goal
 pub returns-in-Some : goal.returns-in-Some
 returns-in-Some c =
     let e = expr_of c.expr.result.now in
-    let P : Vec (Bor (List ℕ)) Global → Type 0 = λ ns. AskedOf ns.items (λ p. asks_expr p e) in
+    let P : Vec (String Global) Global → Type 0 = λ ns. AskedOf ns.items (λ p. asks_expr p e) in
     subst (λ x. TestsNoMore (expr_of x) (OfRoot c.in-Some.names)) c.expr.ensures.same
     (test-asks-root e c.in-Some.names
     (subst (λ o. IfSome o P) c.in-Some.is c.in_ok-names.ensures))

@@ -1,5 +1,5 @@
 use Rattle.std.proofs.Common.{◌≡◌, ◌∙◌, IsUtf8, map, refl, rules, subst}
-use Rattle.jp_document.specs.Location.{step_of}
+use Rattle.jp_document.specs.Location.{owned_step}
 use Rattle.jp_flat.specs.Flat.{shown}
 use Rattle.jp_flat.specs.Private.Found.{FindsInText}
 use Rattle.jp_flat.proofs.Documents.{found-sound, none-found, value-found}
@@ -9,7 +9,7 @@ pub invariant_of-result : goal.invariant_of-result
 invariant_of-result c =
     let bytes = c.args.bytes.now in
     let t = shown c.value_in.new.tables in
-    let l = map step_of c.args.location.now in
+    let l = map owned_step c.args.location.now in
     let both : (c.in-Ok.text.now ≡ bytes) × IsUtf8 bytes = search rules in
     record {
       sound = found-sound bytes t l both.1 c.in-Some-found.root
@@ -22,7 +22,7 @@ pub returns-in-Some-found : goal.returns-in-Some-found
 returns-in-Some-found c =
     let bytes = c.args.bytes.now in
     let t = shown c.value_in.new.tables in
-    let l = map step_of c.args.location.now in
+    let l = map owned_step c.args.location.now in
     let both : (c.in-Ok.text.now ≡ bytes) × IsUtf8 bytes = search rules in
     value-found bytes t l both.1 _
     (subst (FindsInText bytes t l) c.in-Some-found.is
@@ -34,7 +34,7 @@ pub returns-in-None : goal.returns-in-None
 returns-in-None c =
     let bytes = c.args.bytes.now in
     let t = shown c.value_in.new.tables in
-    let l = map step_of c.args.location.now in
+    let l = map owned_step c.args.location.now in
     let both : (c.in-Ok.text.now ≡ bytes) × IsUtf8 bytes = search rules in
     none-found bytes t l both.1
     (subst (FindsInText bytes t l) c.in-None.is
