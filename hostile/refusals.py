@@ -8,9 +8,13 @@ import subprocess
 import sys
 
 ROOT = os.path.dirname(os.path.dirname(os.path.realpath(__file__)))
-sys.path.insert(0, os.path.join(ROOT, "tools"))
+sys.path[:0] = [os.path.join(ROOT, "tools"), os.path.join(ROOT, "bindings")]
 
 import jp_tools  # noqa: E402
+import rows  # noqa: E402
+
+# The sentences for what is refused, by their reasons.
+OF_QUERIES, OF_DOCUMENTS = rows.sentences("Query"), rows.sentences("Document")
 
 # How many bytes a document may have.
 LARGEST = 16_777_216

@@ -7,6 +7,8 @@ import os
 import pathlib
 import re
 
+from jp_tools import is_of_tests
+
 ROOT = pathlib.Path(os.path.realpath(__file__)).parent.parent
 CRATES = ROOT / "crates"
 NAMED_BY_THEIR_FOLDER = {"Answers.antt", "Invariants.antt"}
@@ -196,7 +198,7 @@ def told_instead(crate, part, path):
     if part == "src":
         if words[0] == "laws":
             return " Nothing calls it."
-        return " Tests." if "tests" in words or (crate == "jp_tests" and words != ("lib",)) else ""
+        return " Tests." if "tests" in words or (is_of_tests(crate) and words != ("lib",)) else ""
     if part == "proofs" and (words[-1].endswith("Rows") or {"Rows", "Standard"} & {*words}):
         return " Examples that the prover computes; nothing cites them."
     if path.name == "Proof.antt":

@@ -4,10 +4,13 @@
 Python scripts import it. A script of the shell asks it for one thing:
 
     tools/jp_tools.py proved CRATE    the proved program of a crate
+    tools/jp_tools.py unproved CRATE  the one that is built without proofs
     tools/jp_tools.py refuse FILE..   nothing, and the status 1 where one was built without proofs
     tools/jp_tools.py is-unproved FILE
                                       nothing, and the status 0 where it was built without proofs, or else 1
     tools/jp_tools.py kit             the folder of the kit
+    tools/jp_tools.py c-library FILE..
+                                      the oldest version of the C library, as 2.34, over which these files run
 """
 import os
 import re
@@ -74,6 +77,11 @@ def contents(path):
         return file.read()
 
 
+def is_of_tests(name):
+    """Whether a crate has nothing but the tests of others."""
+    return name.endswith("_tests")
+
+
 def has_tests(name):
     return any(re.search(rb"^\s*#\[test\]", contents(path), re.MULTILINE) for path in sources(name))
 
@@ -135,14 +143,33 @@ def proved(name):
     return path
 
 
+def unproved(name):
+    """The program of a crate that is built without proofs; ends the script where there is none."""
+    path = path_of_unproved(name)
+    if not os.access(path, os.X_OK):
+        stop(f"{os.path.relpath(path, ROOT)} is not there: bin/build --unproved {name} builds it")
+    return path
+
+
 def program(name, is_proved=True):
     """The program of a crate that a test runs, which the test says."""
-    path = proved(name) if is_proved else path_of_unproved(name)
+    path = proved(name) if is_proved else unproved(name)
     shown = os.path.relpath(path, ROOT)
-    if not os.access(path, os.X_OK):
-        stop(f"{shown} is not there: bin/build --unproved {name} builds it")
     print(f"{script()}: runs {shown}, which is " + ("proved" if is_proved else "built without proofs"), flush=True)
     return path
+
+
+def c_library(paths):
+    """The newest version of the C library that a symbol of programs and shared objects names, as "2.34"; ends the
+    script where they need another library, or name none."""
+    told = [subprocess.run(["objdump", "-p", it], stdout=subprocess.PIPE, text=True, check=True).stdout for it in paths]
+    needed = {it for text in told for it in re.findall(r"^ *NEEDED +(\S+)$", text, re.MULTILINE)} - {"libc.so.6"}
+    if needed:
+        stop(f"no package is known here for {' '.join(sorted(needed))}")
+    versions = {it for text in told for it in re.findall(r"\bGLIBC_([0-9][0-9.]*)", text)}
+    if not versions:
+        stop("no symbol names a version of the C library")
+    return max(versions, key=lambda it: [int(part) for part in it.split(".")])
 
 
 def is_proved_wanted():
@@ -151,14 +178,16 @@ def is_proved_wanted():
 
 
 def main(words):
-    if len(words) == 2 and words[0] == "proved":
-        print(proved(words[1]))
+    if len(words) == 2 and words[0] in ("proved", "unproved"):
+        print(proved(words[1]) if words[0] == "proved" else unproved(words[1]))
     elif words[:1] == ["refuse"]:
         refuse_unproved(words[1:])
     elif len(words) == 2 and words[0] == "is-unproved":
         sys.exit(not is_unproved(words[1]))
     elif words == ["kit"]:
         print(kit())
+    elif words[:1] == ["c-library"]:
+        print(c_library(words[1:]))
     else:
         sys.exit(__doc__)
 

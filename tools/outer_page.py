@@ -13,27 +13,31 @@ from crate_pages import Nameless, listed
 ROOT = pathlib.Path(os.path.realpath(__file__)).parent.parent
 # The folders, each with what its files have in common.
 FOLDERS = {
-    "bindings": "jp for other languages. `build` makes the library for C, on which Python and Rust stand. In `numbers.json`"
-    " are the numbers and names of statuses and refusals, from which `.ci/numbers --write` writes those of each language.",
+    "bindings": "jp for other languages. `build` makes the library for C, on which Go, Python and Rust stand. In `numbers.json`"
+    " are the numbers and names of statuses and refusals, from which `.ci/numbers --write` writes those of each language; in"
+    " `rows.jsonl` the rows that the tests of each language run, which `.ci/rows --write` writes.",
     "bindings/c": "What is compiled beside the proved calls, or calls them. `stack.c` and `cursor.c` are trusted; what `jp.h`"
     " says of the calls is tested by the others.",
+    "bindings/go": "The package for Go, over `libjp.a`. Its callers see the names that begin with a capital letter.",
     "bindings/node": "The package for Node, over the module that `page/build` makes. The page takes those of its files that"
     " need nothing of Node.",
     "bindings/python": "The package for Python, over `libjp.so`. Its callers see what `__init__.py` names; what begins with"
     " `_` may be changed as long as they see the same.",
+    "bindings/java": "The archive for Java, over `libjp.a`. Its callers see what is `public`.",
     "bindings/rust": "The crate for Rust, over `libjp.a`. Its callers see what `lib.rs` names.",
     "bindings/wasm": "What the WebAssembly module has of C. It is trusted.",
     "page": "The page to try queries in. `join` puts it together of `src` and of modules of `bindings/node`; a browser runs"
     " its `tests`.",
     "hostile": "Runs of the built programs where memory, stack or streams fail, and beside plain programs that do the same.",
     "bench": "What measures time and memory; the gate runs none of it. [Its page](../bench/README.md) has the figures.",
-    "packaging": "What the Debian package is made of besides the programs and the library, and its test.",
+    "packaging": "What puts a release together; what the Debian package is made of besides the programs and the library; and the"
+    " tests of both.",
     "bin": "What is called by hand: the programs, and what proves, builds, tests, installs and packs them.",
     ".ci": "The gate, and what it checks besides the proofs.",
     "tools": "What scripts share.",
 }
 # Files that hold no comment, or none that says what they are for.
-SILENT = {".json", ".toml", ".lock", ".css", ".html", ".typed"}
+SILENT = {".json", ".jsonl", ".toml", ".lock", ".css", ".html", ".typed"}
 SILENT_FILES = {"control", "copyright", "overrides", "CODEMIRROR-LICENCE"}
 COMMENTS = re.compile(r'^ *"""[\s\S]*?"""|^ *(?://|#(?!include)).*|/\*[\s\S]*?\*/|`[^`\n]*`', re.MULTILINE)
 HEAD = re.compile(r'"""([\s\S]*?)"""|/\*\*?([\s\S]*?)\*/|((?:(?:#|//!?|\.\\").*\n)+)')
@@ -61,7 +65,8 @@ def folder_of(path):
 
 def head(path):
     """The first sentence of the comment with which a file begins."""
-    block = HEAD.match(re.sub(r"^#!.*\n", "", text_of(path)))
+    # A file of Java names its package and what it imports before its first comment.
+    block = HEAD.match(re.sub(r"^#!.*\n|^(?:(?:package|import) .*\n|\n)+", "", text_of(path)))
     lines = (block[1] or block[2] or block[3]).splitlines() if block else []
     bare = (re.sub(r'^\s*(\*|#|//!?|\.\\")(?= |$)', "", line).strip() for line in lines)
     joined = "\n".join(bare).strip().partition("\n\n")[0].replace("\n", " ")
@@ -74,6 +79,16 @@ def code(path):
     return COMMENTS.sub("", text_of(path))
 
 
+def is_test(path):
+    return "tests" in path.parts or path.name.endswith("_test.go")
+
+
+@functools.cache
+def defined(path):
+    """The functions and types that a file of Go defines for the others of its package, which name no files."""
+    return {*re.findall(r"^(?:func|type) (\w+)", text_of(path), re.MULTILINE)}
+
+
 @functools.cache
 def imported(path):
     """The files that a file imports by the words of its language, and some that are none."""
@@ -81,6 +96,14 @@ def imported(path):
         return {os.path.normpath(path.parent / name) for name in re.findall(r'"(\.\.?/[\w./-]+)"', code(path))}
     if path.suffix == ".rs":
         return {f"{path.parent}/{name}.rs" for name in re.findall(r"\b(?:mod |crate::)(\w+)", code(path))}
+    if path.suffix == ".go" and not is_test(path):
+        words = {*re.findall(r"\w+", code(path))}
+        near = [it for it in all_files() if it.parent == path.parent and it.suffix == ".go" and not is_test(it)]
+        headers = re.findall(r'^// #include "(.*)"', text_of(path), re.MULTILINE)
+        return {str(it) for it in near if words & defined(it)} | {f"{path.parent}/{name}" for name in headers}
+    if path.suffix == ".java":
+        near = {path.parent, pathlib.PurePosixPath("bindings/java/src/jsonpath/jp")}
+        return {f"{folder}/{word}.java" for folder in near for word in re.findall(r"\b[A-Z]\w+", code(path))}
     lines = re.findall(r"^ *(?:from ([\w.]+) )?import ([^\n]*)", code(path), re.MULTILINE)
     words = {word for line in lines for part in line for word in re.findall(r"\w+", part)}
     near = {path.parent, path.parent.parent / "jsonpath_jp", pathlib.PurePosixPath("tools")}
@@ -109,7 +132,7 @@ def is_used_by(path, other):
     """Whether a file names this one: by its path, or from near by by its name, of a file of C also without its ending."""
     if str(path) in named(other):
         return True
-    is_near = folder_of(path).startswith(folder_of(other) or "/") and other.suffix != ".mjs" and "tests" not in path.parts
+    is_near = folder_of(path).startswith(folder_of(other) or "/") and other.suffix != ".mjs" and not is_test(path)
     is_short = path.suffix == ".c" and re.search(rf'"{path.stem}"|\bcompile {path.stem}\b', code(other))
     return is_near and bool(path.suffix) and (path.name in named(other) or bool(is_short))
 
@@ -125,7 +148,7 @@ def item(folder, path):
     names = {f"`{other.relative_to(folder) if folder_of(other) == folder else other}`" for other in users}
     if names:
         return f"{line} Used by: {listed(names)}."
-    return line + (" Tests." if "tests" in path.parts else "")
+    return line + (" Tests." if is_test(path) else "")
 
 
 def page():

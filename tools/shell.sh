@@ -27,6 +27,16 @@ place_unproved() {
 # Makes a copy of the packages in the folder $1, for tests of what is built without proofs.
 copy_packages() {
     mkdir -p "$1/bindings"
-    cp -r "$root"/bindings/{compare,node,python} "$1/bindings"
+    cp -r "$root"/bindings/{compare,rows.py,rows.jsonl,go,node,python} "$1/bindings"
     ln -s "$root"/{crates,tools,LICENSE-APACHE,LICENSE-MIT} "$1"
+}
+
+# The class path of Jackson for Java: the one that JP_JACKSON names, or that of Debian's package, or none.
+jackson_path() {
+    local jars=/usr/share/java/jackson
+    if [ -n "${JP_JACKSON-}" ]; then
+        echo "$JP_JACKSON"
+    elif [ -f $jars-databind.jar ]; then
+        echo $jars-databind.jar:$jars-core.jar:$jars-annotations.jar
+    fi
 }

@@ -322,6 +322,42 @@ static void try_steps(void) {
     jp_clear(&query);
 }
 
+/* Those of RFC 6901, section 5, and others by its section 3, each behind the normalized path. */
+static const char *const pointers[][2] = {
+    {"$", ""},
+    {"$['foo']", "/foo"},
+    {"$['foo'][0]", "/foo/0"},
+    {"$['']", "/"},
+    {"$['a/b']", "/a~1b"},
+    {"$['c%d']", "/c%d"},
+    {"$['e^f']", "/e^f"},
+    {"$['g|h']", "/g|h"},
+    {"$['i\\\\j']", "/i\\j"},
+    {"$['k\"l']", "/k\"l"},
+    {"$[' ']", "/ "},
+    {"$['m~n']", "/m~0n"},
+    {"$['~1']['/0']", "/~01/~10"},
+    {"$['\\'']['\\n\\u001f']", "/'/\n\x1f"},
+    {"$['\u00e9\U0001f600']['0'][10]", "/\u00e9\U0001f600/0/10"},
+    {"$[9007199254740990]", "/9007199254740990"},
+};
+
+/* Each pointer, in a buffer with room for it, and in one of a byte less, which stays as it was. */
+static void try_pointers(void) {
+    for (size_t at = 0; at < sizeof pointers / sizeof *pointers; at += 1) {
+        const char *const path = pointers[at][0], *const pointer = pointers[at][1];
+        const struct jp_text given = {(const uint8_t *)path, strlen(path)};
+        const size_t length = strlen(pointer);
+        uint8_t room[64] = {'?'};
+        expect(length == 0 || jp_pointer(&given, room, length - 1) == length, "a pointer's length", path);
+        expect(room[0] == '?' && room[1] == 0, "a buffer that is too small stays", path);
+        const struct jp_text written = {room, jp_pointer(&given, room, length)};
+        expect(is_text(&written, pointer), "a pointer", path);
+        expect(room[length] == (length == 0 ? '?' : 0), "nothing behind it", path);
+        expect(length < 2 * given.length, "less than twice the path", path);
+    }
+}
+
 /* Goes through all nodes of a list of so many numbers. Gives how many steps the first took, and all. */
 static void go_through(struct jp_handle *query, struct jp_handle *document, uint64_t count, uint64_t steps[2]) {
     struct jp_cursor cursor = JP_START;
@@ -518,6 +554,7 @@ int main(int count, char **words) {
     try_first();
     try_cursor();
     try_steps();
+    try_pointers();
     try_many();
     for (size_t row = 0; row < sizeof spreads / sizeof spreads[0]; row += 1) {
         try_spread(row);

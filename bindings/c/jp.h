@@ -328,6 +328,11 @@ uint32_t jp_next_step(const struct jp_text *path, size_t *at, struct jp_step *st
  * has room for that. */
 size_t jp_name(const struct jp_text *name, uint8_t *out);
 
+/* Writes the JSON Pointer (RFC 6901) to the node of a normalized path, as calls give it, if there is room for the whole
+ * of it, and else leaves the buffer as it was. Gives the pointer's length in either case: 0 for the root, and less than
+ * twice the path's. */
+size_t jp_pointer(const struct jp_text *path, uint8_t *out, size_t out_length);
+
 /* Frees what the handle keeps, if anything. It then keeps nothing, and may be filled or cleared again.
  * Where the thread's stack has too little left for it, nothing is done, and `full` is not 0 still. */
 void jp_clear(struct jp_handle *handle);

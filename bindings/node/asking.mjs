@@ -1,5 +1,7 @@
-/** What the engines are asked, in lines of text, or the errors that outcomes stand for. */
-import { readFileSync } from "node:fs";
+/**
+ * What the engines are asked, in lines of text, or the errors that outcomes stand for. This file needs nothing of
+ * Node.
+ */
 import { ALL, Engine, KeptDocument, UNLIMITED } from "./engine.mjs";
 import { BeyondLimit, DocumentError, QueryError, StepsUsedUp, TooManyBytes, TooManyNodes } from "./errors.mjs";
 import { NO_MEMORY_TEXT } from "./instance.mjs";
@@ -9,31 +11,18 @@ import {
 import { Cursor } from "./pages.mjs";
 import { bytesOf, textOf } from "./texts.mjs";
 
-const compiled = start();
-
 // A document of more bytes has an engine of its own, and so memory that goes with it.
 const SMALL = 1 << 16;
 
-/** The engine that is asked of documents that are not kept, and keeps small ones. */
-export const engine = new Engine(compiled);
+let compiled;
 
-function start() {
-  const file = new URL("jp.wasm", import.meta.url);
-  let bytes;
-  try {
-    bytes = readFileSync(file);
-  } catch (cause) {
-    throw new Error(`${file.pathname} is missing: page/build of jp's repository makes it`, { cause });
-  }
-  try {
-    return new WebAssembly.Module(bytes);
-  } catch (cause) {
-    throw new Error(
-      "this Node cannot start jp.wasm, whose memory has addresses of 64 bits; " +
-        "start it as `node --experimental-wasm-memory64 ..`",
-      { cause },
-    );
-  }
+/** The engine that is asked of documents that are not kept, and keeps small ones. */
+export let engine;
+
+/** Has engines be instances of this module, before anything is asked. */
+export function start(module) {
+  compiled = module;
+  engine = new Engine(module);
 }
 
 /** What the engine `asks` keeps as `kept`, the document that these bytes are. */
@@ -119,7 +108,7 @@ export function told({ status, kind, place, steps, text: written }, query, profi
     case QUERY_REFUSED:
       throw new QueryError(engine.kindName(status, kind), place, query, engine.explain(bytesOf(query), profile));
     case DOCUMENT_REFUSED:
-      throw new DocumentError(engine.kindName(status, kind), text || null, engine.explainDocument(document));
+      throw new DocumentError(engine.kindName(status, kind), text || null, whyRefused(document));
     case NO_MEMORY:
       throw new RangeError(NO_MEMORY_TEXT);
     case STEPS_USED_UP:
@@ -131,4 +120,14 @@ export function told({ status, kind, place, steps, text: written }, query, profi
     default:
       throw new Error(`the engine gives the status ${status}`);
   }
+}
+
+const BY_LINES =
+  "Where each line is a document (JSON Lines), ask one after another: for await (const line of readline) query.find(line)";
+
+/** Why the bytes are no document, where, and what to do where they look like JSON Lines. */
+function whyRefused(bytes) {
+  const why = engine.explainDocument(bytes);
+  const isOfLines = why.reason === "AfterValue" && /^\s*\S[^\n]*\n[ \t\r\n]*$/.test(textOf(bytes.slice(0, why.offset)));
+  return { ...why, suggestion: isOfLines ? BY_LINES : null };
 }

@@ -4,9 +4,9 @@
  * A document that is kept, JSON text, as a string or as bytes, or any other value, which `JSON.stringify` writes
  * first; a BigInt in it is a whole number. A string is JSON text: the JSON text of the string `a` is `'"a"'`. What
  * JSON has not, as a Map, a function or NaN, is refused, and so is a Number that is whole and no safe integer, in whose
- * place a BigInt is given.
+ * place a BigInt is given. What is `unknown` to TypeScript may be given: whether it is a document is seen when it is read.
  */
-export type DocumentLike = Document | string | Uint8Array | ArrayBuffer | object | number | bigint | boolean | null;
+export type DocumentLike<T = unknown> = T extends symbol | undefined | ((...words: never) => unknown) ? never : T;
 
 /** A JSON value. A whole number that is no safe integer is a BigInt. */
 export type Value = string | number | bigint | boolean | null | Value[] | { [name: string]: Value };
@@ -47,6 +47,8 @@ export class Match {
   readonly path: string;
   /** The names and indexes of its path, from the document's root on, made anew each time. */
   get steps(): (string | number)[];
+  /** The JSON Pointer (RFC 6901) to it, made anew each time. */
+  get pointer(): string;
   /** Its value as compact JSON. */
   readonly text: string;
   /** Its value, made anew each time. */
@@ -64,12 +66,12 @@ export class Query {
   readonly limit: number | bigint | undefined;
   readonly maxNodes: number | bigint | undefined;
   readonly maxBytes: number | bigint | undefined;
-  find(document: DocumentLike, options?: Limit): Match[];
-  findOne(document: DocumentLike, options?: Limit): Match | null;
-  findIter(document: DocumentLike, options?: StepLimit): Generator<Match, void, undefined>;
-  values(document: DocumentLike, options?: Limit): Value[];
-  paths(document: DocumentLike, options?: Limit): string[];
-  exists(document: DocumentLike, options?: Limit): boolean;
+  find<T>(document: DocumentLike<T>, options?: Limit): Match[];
+  findOne<T>(document: DocumentLike<T>, options?: Limit): Match | null;
+  findIter<T>(document: DocumentLike<T>, options?: StepLimit): Generator<Match, void, undefined>;
+  values<T>(document: DocumentLike<T>, options?: Limit): Value[];
+  paths<T>(document: DocumentLike<T>, options?: Limit): string[];
+  exists<T>(document: DocumentLike<T>, options?: Limit): boolean;
   toString(): string;
 }
 
@@ -78,7 +80,7 @@ export class Query {
  * calls are those below. Throws `DocumentError` where it is refused.
  */
 export class Document {
-  constructor(document: Exclude<DocumentLike, Document>);
+  constructor(document: unknown);
   find(query: string | Query, options?: Options): Match[];
   findOne(query: string | Query, options?: Options): Match | null;
   findIter(query: string | Query, options?: StepOptions): Generator<Match, void, undefined>;
@@ -87,7 +89,10 @@ export class Document {
   exists(query: string | Query, options?: Options): boolean;
 }
 
-/** A query that is refused. Its message shows the query with a caret, and the sentence. */
+/**
+ * A query that is refused. Its message shows the query with a caret, the sentence and the suggestion. All that an error
+ * tells is in its `cause` too, by the same names and with its `name`, of which copies are made with it.
+ */
 export class QueryError extends Error {
   readonly name: "QueryError";
   readonly kind:
@@ -111,7 +116,7 @@ export class QueryError extends Error {
   readonly suggestion: string | null;
 }
 
-/** A document that is refused. Its message shows the path, the line, the column and the sentence. */
+/** A document that is refused. Its message shows the path, the line, the column, the sentence and the suggestion. */
 export class DocumentError extends Error {
   readonly name: "DocumentError";
   readonly kind:
@@ -135,6 +140,8 @@ export class DocumentError extends Error {
   readonly reason: string | null;
   /** The reason in words. */
   readonly sentence: string | null;
+  /** How a text is asked that looks like JSON Lines, where each line is a document. */
+  readonly suggestion: string | null;
 }
 
 /** A query that needs more steps over the document than the option `limit` allows. */
@@ -158,6 +165,12 @@ export class TooManyBytes extends Error {
   readonly query: string;
 }
 
+/**
+ * The error of this package of which structuredClone, or postMessage from a worker, made a copy; anything else as it
+ * is.
+ */
+export function errorOf(copy: unknown): unknown;
+
 /** The query, read once, to be asked of documents. Throws `QueryError` where it is not accepted. */
 export function compile(query: string, options?: Options): Query;
 
@@ -170,10 +183,10 @@ export function parse(query: string, options?: Options): Query;
  * where there is a limit and the query goes beyond it, `RangeError` where memory ran out, and `TypeError` where
  * something else is given than belongs there.
  */
-export function find(query: string | Query, document: DocumentLike, options?: Options): Match[];
+export function find<T>(query: string | Query, document: DocumentLike<T>, options?: Options): Match[];
 
 /** The first of these nodes, with which the evaluation stops; null where there is none. */
-export function findOne(query: string | Query, document: DocumentLike, options?: Options): Match | null;
+export function findOne<T>(query: string | Query, document: DocumentLike<T>, options?: Options): Match | null;
 
 /**
  * The nodes that `find` gives, looked for as they are asked for, in pages: the first is found without the others. The
@@ -181,8 +194,8 @@ export function findOne(query: string | Query, document: DocumentLike, options?:
  * need more steps than the limit some of the first may be given, and then `StepsUsedUp` is thrown. There is no other
  * limit, since whoever goes through nodes can count them.
  */
-export function findIter(
-  query: string | Query, document: DocumentLike, options?: StepOptions,
+export function findIter<T>(
+  query: string | Query, document: DocumentLike<T>, options?: StepOptions,
 ): Generator<Match, void, undefined>;
 
 /**
@@ -190,18 +203,18 @@ export function findIter(
  * refused, or goes beyond a limit, has its error in the list, and ends nothing. Throws `DocumentError` where a query
  * that is accepted is asked of what is no document.
  */
-export function findMany(
-  queries: Iterable<string | Query> & object, document: DocumentLike, options?: Options,
+export function findMany<T>(
+  queries: Iterable<string | Query> & object, document: DocumentLike<T>, options?: Options,
 ): (Match[] | QueryError | StepsUsedUp | TooManyNodes | TooManyBytes)[];
 
 /** The values of the nodes that `find` gives. */
-export function values(query: string | Query, document: DocumentLike, options?: Options): Value[];
+export function values<T>(query: string | Query, document: DocumentLike<T>, options?: Options): Value[];
 
 /** The normalized paths of the nodes that `find` gives. */
-export function paths(query: string | Query, document: DocumentLike, options?: Options): string[];
+export function paths<T>(query: string | Query, document: DocumentLike<T>, options?: Options): string[];
 
 /** Whether `find` gives any node. The evaluation stops with the first one. */
-export function exists(query: string | Query, document: DocumentLike, options?: Options): boolean;
+export function exists<T>(query: string | Query, document: DocumentLike<T>, options?: Options): boolean;
 
 /** The canonical text of the query: equal for equal queries, however they are spelled. Throws `QueryError`. */
 export function canonical(query: string, options?: Options): string;

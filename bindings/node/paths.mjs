@@ -1,4 +1,4 @@
-/** Normalized paths (RFC 9535, section 2.7), and the names and indexes that they are made of. */
+/** Normalized paths (RFC 9535, section 2.7), the names and indexes that they are made of, and JSON Pointers. */
 
 const STEP = /\['((?:[^'\\]|\\.)*)'\]|\[(\d+)\]/g;
 const ESCAPE = /\\(?:u(....)|(.))/g;
@@ -14,6 +14,11 @@ function named(text) {
   return text.replace(ESCAPE, (_, code, letter) =>
     code === undefined ? (MEANT[letter] ?? letter) : String.fromCharCode(parseInt(code, 16)),
   );
+}
+
+/** The JSON Pointer (RFC 6901) of names and indexes. */
+export function pointerOf(steps) {
+  return steps.map((step) => `/${`${step}`.replaceAll("~", "~0").replaceAll("/", "~1")}`).join("");
 }
 
 /** The path of names and indexes. */

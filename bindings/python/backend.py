@@ -2,7 +2,9 @@
 
 The wheel holds the package as it stands, with the shared object that `bindings/build` puts into it; or, where it is to
 be edited, the path of this folder. Where there is no shared object, one is made without proofs. What the package says
-of itself is in pyproject.toml; over a shared object without proofs its version ends with `+unproved`.
+of itself is in pyproject.toml; over a shared object without proofs its version ends with `+unproved`. The same files give
+the same bytes, whose dates are that of `SOURCE_DATE_EPOCH`, or else of 1980. The setting `platform` names a platform for
+the wheel's tag other than that of this Python, as `manylinux_2_34_x86_64`.
 """
 import ast
 import base64
@@ -13,6 +15,7 @@ import re
 import subprocess
 import sysconfig
 import tarfile
+import time
 import zipfile
 
 NAME = "jsonpath_jp"
@@ -22,6 +25,9 @@ LIBRARY = "libjp.so"
 MARK = b"jp: built without its proofs, of "
 SOURCES = ["pyproject.toml", "backend.py", "README.md"]
 LICENCES = ["LICENSE-APACHE", "LICENSE-MIT"]
+# The first second that a wheel can tell.
+EARLIEST = 315532800
+DATE = max(EARLIEST, int(os.environ.get("SOURCE_DATE_EPOCH", EARLIEST)))
 
 
 def _make_library():
@@ -87,9 +93,9 @@ def _metadata():
     return ("\n".join(lines) + "\n\n").encode() + _contents(_said("readme"))
 
 
-def _tag():
-    platform = sysconfig.get_platform().replace("-", "_").replace(".", "_")
-    return f"py3-none-{platform}"
+def _tag(settings):
+    platform = (settings or {}).get("platform") or sysconfig.get_platform()
+    return f"py3-none-{platform.replace('-', '_').replace('.', '_')}"
 
 
 def _record_line(path, data):
@@ -97,29 +103,36 @@ def _record_line(path, data):
     return f"{path},sha256={digest},{len(data)}\n"
 
 
-def _write_wheel(wheel_directory, files):
+def _zip_entry(path):
+    entry = zipfile.ZipInfo(path, time.gmtime(DATE)[:6])
+    entry.compress_type = zipfile.ZIP_DEFLATED
+    entry.external_attr = 0o100644 << 16
+    return entry
+
+
+def _write_wheel(wheel_directory, files, settings):
     info = f"{NAME}-{_version()}.dist-info"
-    wheel = f"Wheel-Version: 1.0\nGenerator: {NAME}\nRoot-Is-Purelib: false\nTag: {_tag()}\n"
+    wheel = f"Wheel-Version: 1.0\nGenerator: {NAME}\nRoot-Is-Purelib: false\nTag: {_tag(settings)}\n"
     files = [*files, (f"{info}/METADATA", _metadata()), (f"{info}/WHEEL", wheel.encode())]
     files += [(f"{info}/{name}", text) for name, text in _licences()]
     record = "".join(_record_line(path, data) for path, data in files)
     files.append((f"{info}/RECORD", f"{record}{info}/RECORD,,\n".encode()))
-    name = f"{NAME}-{_version()}-{_tag()}.whl"
-    with zipfile.ZipFile(os.path.join(wheel_directory, name), "w", zipfile.ZIP_DEFLATED) as archive:
+    name = f"{NAME}-{_version()}-{_tag(settings)}.whl"
+    with zipfile.ZipFile(os.path.join(wheel_directory, name), "w") as archive:
         for path, data in files:
-            archive.writestr(path, data)
+            archive.writestr(_zip_entry(path), data)
     return name
 
 
 def build_wheel(wheel_directory, config_settings=None, metadata_directory=None):
     """Writes the wheel into that folder, and answers its name."""
-    return _write_wheel(wheel_directory, [(path, _contents(path)) for path in _package_files()])
+    return _write_wheel(wheel_directory, [(path, _contents(path)) for path in _package_files()], config_settings)
 
 
 def build_editable(wheel_directory, config_settings=None, metadata_directory=None):
     """Writes a wheel that has Python look for the package in this folder, and answers its name."""
     _package_files()
-    return _write_wheel(wheel_directory, [(f"{NAME}.pth", f"{HERE}\n".encode())])
+    return _write_wheel(wheel_directory, [(f"{NAME}.pth", f"{HERE}\n".encode())], config_settings)
 
 
 def build_sdist(sdist_directory, config_settings=None):

@@ -58,6 +58,16 @@ def measure_documents():
     row("jsonpath-ng, parsed before, on the object", lambda: parsed.find(whole))
 
 
+def measure_values():
+    document, query = jp.Document(store(BOOKS)), jp.compile("$..price")
+    row(f"the values of {BOOKS} nodes, by values, and of matches", lambda: document.values(query),
+        lambda: [match.value for match in document.find(query)])
+    books = store(119)
+    row(f"an object of {len(json_bytes(books))} bytes, and writing it", lambda: jp.values("$.store.book[3].title", books),
+        lambda: json_bytes(books))
+
+
 if __name__ == "__main__":
     measure_queries()
     measure_documents()
+    measure_values()

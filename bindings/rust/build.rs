@@ -1,5 +1,6 @@
-//! Finds `libjp.a`: in the folder that `JP_LIB_DIR` names, or in `bindings/out`, where `bindings/build` makes it, or in
-//! `out/unproved/lib`, where `bindings/build --unproved` makes it, which is called where it is in neither.
+//! Finds `libjp.a`: in the folder that `JP_LIB_DIR` names, or beside this file, where the archive of a release has it, or in
+//! `bindings/out`, where `bindings/build` makes it, or in `out/unproved/lib`, where `bindings/build --unproved` makes it,
+//! which is called where it is in none.
 
 use std::env;
 use std::path::{Path, PathBuf};
@@ -9,9 +10,11 @@ const LIBRARY: &str = "libjp.a";
 
 fn main() {
     println!("cargo:rerun-if-env-changed=JP_LIB_DIR");
+    let here = Path::new(env!("CARGO_MANIFEST_DIR"));
     let folder = match env::var_os("JP_LIB_DIR") {
         Some(folder) => watched(PathBuf::from(folder)),
-        None => of_the_repository(&Path::new(env!("CARGO_MANIFEST_DIR")).join("..")),
+        None if here.join(LIBRARY).is_file() => watched(here.to_path_buf()),
+        None => of_the_repository(&here.join("..")),
     };
     let library = folder.join(LIBRARY);
     if !library.is_file() {

@@ -1,5 +1,6 @@
 /** Tests of the document: its editor, how it is refused, long ones, and one document a line. */
 import assert from "node:assert/strict";
+import { sentenceOf } from "./sentences.mjs";
 import {
   STORE, answered, becomes, browser, byProgram, click, countOf, editor, listed, marked, open, openFile, press, textOf,
   textsOf, type,
@@ -23,10 +24,9 @@ async function hasAnEditor() {
 }
 
 async function showsRefusedDocuments() {
-  const fraction = "A number with a fraction or an exponent is no whole number.";
   for (const [document, place, sentence, path, at] of [
-    ['{"a":[0,{"b":2.5}]}', "line 1, column 14", fraction, "$['a'][1]['b']", ["2"]],
-    ['["é",\n 2,]', "line 2, column 4", "No comma may come before a closing bracket.", null, ["]"]],
+    ['{"a":[0,{"b":2.5}]}', "line 1, column 14", sentenceOf("Document", "HasFraction"), "$['a'][1]['b']", ["2"]],
+    ['["é",\n 2,]', "line 2, column 4", sentenceOf("Document", "TrailingComma"), null, ["]"]],
   ]) {
     await open({ q: "$.a", d: document });
     const kind = byProgram("eval", "$.a", document).fault.replace("document refused: ", "");
@@ -125,7 +125,7 @@ async function readsJsonLines() {
   assert.deepEqual(items, ["line 1", "$['a']", "line 3", "$['a']", "line 3", "$['a'][1]['a']", "line 6", "$['a']"]);
   assert.equal(await textOf("#document-outcome summary"), "2 lines are refused");
   assert.match((await textsOf("#document-outcome li"))[0], /^NotWhole in line 4, column 6: .* \$\['a'\]$/);
-  assert.match((await textsOf("#document-outcome li"))[1], /^NotJson in line 5, column 4: No comma may come before /);
+  assert.equal((await textsOf("#document-outcome li"))[1], `NotJson in line 5, column 4: ${sentenceOf("Document", "TrailingComma")}`);
   assert.deepEqual(await marked("document", "selected"), ["1", '[2,{"a":3}]', "3", "4"]);
   await browser.value('document.querySelectorAll("#nodes .path")[2].click()');
   await becomes(() => marked("document", "current"), ["3"]);

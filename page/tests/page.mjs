@@ -9,11 +9,12 @@ import * as documents from "./documents.mjs";
 import * as looks from "./looks.mjs";
 import * as nodes from "./nodes.mjs";
 import * as queries from "./queries.mjs";
+import * as rows from "./rows.mjs";
 import { browser } from "./shown.mjs";
 import * as teaching from "./teaching.mjs";
 
 const [, , , , ...names] = process.argv;
-const all = [queries, documents, nodes, cases, teaching, looks].flatMap(({ tests }) => tests);
+const all = [queries, documents, nodes, cases, teaching, looks, rows].flatMap(({ tests }) => tests);
 const tests = names.length === 0 ? all : all.filter(({ name }) => names.includes(name));
 
 try {

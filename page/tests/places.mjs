@@ -1,23 +1,22 @@
 /**
- * Tests where the page marks values: at each path of each document of the rows of the standard, which
- * stand on standard input as bindings/python/tests/rows.py prints them, stands what the engine has there.
+ * Tests where the page marks values: at each path of each document of the rows of bindings/rows.jsonl stands what the
+ * engine has there.
  */
 import assert from "node:assert/strict";
-import { readFileSync } from "node:fs";
 import * as jp from "../../bindings/node/jp.mjs";
 import { indented } from "../src/indenting.mjs";
 import { placesOf } from "../src/places.mjs";
+import { rows } from "./sentences.mjs";
 
 /** The documents of the rows, and some with what those have not. */
 function documents() {
-  const rows = readFileSync(0, "utf8").split("\n").slice(0, -1).map((line) => JSON.parse(line));
   const others = [
     ' \n{ "a" : 1 , "a" : [ 2 , { "a" : -3 } ] , "\\u0061" : { "b" : [ ] } } ',
     '{"a":{"b":1,"c":[2]},"a":{"b":[3,{}],"c":4},"d":"\\\\","e":"\\"]"}',
     String.raw`{"\u000b'\\\n":["]}\"",{}],"é😀":[[true],[null,false]],"[0]":"['x']"}`,
     `[${"[".repeat(60)}"x"${"]".repeat(60)},{"a":[18446744073709551615,-9223372036854775808]}]`,
   ];
-  return new Set([...rows.map(([document]) => document), ...others]);
+  return new Set([...rows.flatMap(({ document }) => document ?? []), ...others]);
 }
 
 function nodesOf(document) {

@@ -1,5 +1,6 @@
 /** Tests of the query: how it is asked, its colors, its mark where it is refused, and that nothing moves. */
 import assert from "node:assert/strict";
+import { sentenceOf } from "./sentences.mjs";
 import {
   STORE, answered, becomes, boxOf, browser, byProgram, caret, click, countOf, editor, listed, open, press, pressOnly,
   textOf, textsOf, type,
@@ -31,7 +32,7 @@ async function showsRefusedQueries() {
 
 async function suggestsQueries() {
   await open({ q: "$[?@.a = 1]", d: '[{"a":1}]' });
-  assert.equal(await textOf("#query-outcome .wrong"), "Syntax at 8: Values are compared with `==` and `!=`.");
+  assert.equal(await textOf("#query-outcome .wrong"), `Syntax at 8: ${sentenceOf("Query", "Equals")}`);
   assert.equal(await textOf("#query-outcome button"), "$[?@.a == 1]");
   await click("#query-outcome button");
   await answered();

@@ -1,4 +1,4 @@
-/** What users of Node see. Expected values are those of RFC 9535, or by hand. */
+/** What users of Node see besides what bindings/rows.jsonl has. Expected values are by hand. */
 import assert from "node:assert/strict";
 import test from "node:test";
 import * as jp from "../jp.mjs";
@@ -38,20 +38,12 @@ test("paths and values", () => {
   assert.equal(match.value, "Sayings");
 });
 
-test("order and repeats", () => {
-  assert.deepEqual(jp.values("$[::-1]", "[1,2,3]"), [3, 2, 1]);
-  assert.deepEqual(jp.paths("$[0,0]", "[1,2,3]"), ["$[0]", "$[0]"]);
-  assert.deepEqual(jp.find("$.nothing", STORE), []);
-});
-
-test("whole numbers are exact, from texts and from values", () => {
+test("whole numbers are exact, from values", () => {
   for (const whole of WHOLE) {
     const value = -SAFE <= whole && whole <= SAFE ? Number(whole) : whole;
-    for (const document of [`[${whole}]`, [whole], [value], new jp.Document([whole])]) {
+    for (const document of [[whole], [value], new jp.Document([whole])]) {
       assert.equal(jp.findOne("$[0]", document).text, `${whole}`);
       assert.deepEqual(jp.values("$[0]", document), [value]);
-      assert.deepEqual(jp.values(`$[?@==${whole}]`, document), [value]);
-      assert.deepEqual(jp.values(`$[?@!=${whole}]`, document), []);
     }
   }
   const mixed = { "1234567890123456": "n18446744073709551615", b: ["t\\\"", "9007199254740993:"], c: 2n ** 63n };
@@ -61,11 +53,9 @@ test("whole numbers are exact, from texts and from values", () => {
 
 test("whole numbers beyond 64 bits", () => {
   for (const whole of BEYOND) {
-    for (const document of [`[0,${whole}]`, [0, whole]]) {
-      const refused = thrown(jp.DocumentError, () => jp.find("$", document));
-      assert.deepEqual([refused.kind, refused.path, refused.column], ["NotWhole", "$[1]", 4]);
-      assert.equal(refused.sentence, "This number is outside -(2^63) to (2^64)-1.");
-    }
+    const refused = thrown(jp.DocumentError, () => jp.find("$", [0, whole]));
+    assert.deepEqual([refused.kind, refused.path, refused.column], ["NotWhole", "$[1]", 4]);
+    assert.equal(refused.reason, "OutOfRange");
   }
 });
 
@@ -92,20 +82,7 @@ test("a text longer than the first buffer", () => {
   assert.deepEqual(jp.values("$[0]", [["x".repeat(3_000_000)]]), [["x".repeat(3_000_000)]]);
 });
 
-test("functions, and those of the profile Extended", () => {
-  const people = [
-    { id: 1, born: "1815" },
-    { id: 2, born: "1791" },
-  ];
-  assert.deepEqual(jp.values('$[?match(@.born,"18..")].id', people), [1]);
-  assert.deepEqual(jp.values('$[?search(@.born,"79")].id', people), [2]);
-  assert.deepEqual(jp.paths("$[?distinct(@.*)]", [{ a: 0 }, {}], { extended: true }), ["$[0]"]);
-  const refused = thrown(jp.QueryError, () => jp.paths("$[?distinct(@.*)]", []));
-  assert.deepEqual([refused.kind, refused.place], ["UnknownFunction", 3]);
-});
-
-test("canonical texts, and queries that are kept", () => {
-  assert.equal(jp.canonical("$ .a [ ?(@.b==-0) ]"), "$['a'][?@['b']==0]");
+test("queries that are accepted, and queries that are kept", () => {
   assert.equal(jp.check("$..a"), undefined);
   const query = jp.parse("$.a");
   assert.deepEqual([query.values({ a: 1 }), query.paths({ a: 1 }), query.find({ b: 1 })], [[1], ["$['a']"], []]);
@@ -117,25 +94,16 @@ test("canonical texts, and queries that are kept", () => {
 test("a query that is refused, with its caret", () => {
   const refused = thrown(jp.QueryError, () => jp.find("$.a[01]", "[1,"));
   assert.deepEqual([refused.kind, refused.place, refused.column], ["Syntax", 5, 5]);
-  const sentence = "A number does not begin with `0`, unless it is 0.";
-  assert.equal(refused.message, `query refused: Syntax at 5\n$.a[01]\n     ^\n${sentence}`);
-  assert.equal(refused.sentence, sentence);
+  assert.equal(refused.message, `query refused: Syntax at 5\n$.a[01]\n     ^\n${refused.sentence}\nTry: $.a[1]`);
 });
 
-test("a sentence and a suggestion", () => {
-  for (const [query, sentence, suggestion] of [
-    ["$[?@.a = 1]", "Values are compared with `==` and `!=`.", "$[?@.a == 1]"],
-    ["$[?@.é = 1]", "Values are compared with `==` and `!=`.", "$[?@.é == 1]"],
-    ["$[?@.a==1e400]", "Numbers in queries are whole: write 10, and neither 10.0 nor 1e1.", null],
-    ["$.\ud800", null, null],
-  ]) {
-    for (const call of [jp.check, jp.canonical, jp.parse, (text) => jp.find(text, "[]")]) {
-      const refused = thrown(jp.QueryError, () => call(query));
-      assert.deepEqual([refused.sentence, refused.suggestion], [sentence, suggestion]);
-    }
-    const [answer] = jp.findMany([query], "[]");
-    assert.deepEqual([answer.sentence, answer.suggestion], [sentence, suggestion]);
+test("a query without a sentence", () => {
+  for (const call of [jp.check, jp.canonical, jp.parse, (text) => jp.find(text, "[]")]) {
+    const refused = thrown(jp.QueryError, () => call("$.\ud800"));
+    assert.deepEqual([refused.sentence, refused.suggestion], [null, null]);
   }
+  const [answer] = jp.findMany(["$.\ud800"], "[]");
+  assert.deepEqual([answer.sentence, answer.suggestion], [null, null]);
   assert.equal(new jp.QueryError("Syntax", 1, "$[").message, "query refused: Syntax at 1\n$[\n ^");
 });
 
@@ -153,32 +121,10 @@ test("places are bytes, and columns are indexes of the query", () => {
   }
 });
 
-test("kinds of refusal", () => {
-  for (const [query, kind, place] of [
-    ["$[9007199254740992]", "IndexRange", 2],
-    ["$[?@.a==1.5]", "NotWhole", 8],
-    ["$[?@.a==99999999999999999999]", "NumberRange", 8],
-    ["$[?length()==1]", "ArgumentCount", 3],
-    ["$[?@.*==1]", "NotSingular", 3],
-    ["$[?value(@..color)]", "IllTyped", 3],
-    [`$[?${"(".repeat(200)}`, "TooDeep", 130],
-  ]) {
-    const refused = thrown(jp.QueryError, () => jp.check(query));
-    assert.deepEqual([refused.kind, refused.place], [kind, place]);
-  }
-});
-
-test("documents that are refused", () => {
+test("documents of JavaScript that are refused", () => {
   for (const [document, kind, path, place, reason] of [
-    ["[1,]", "NotJson", null, [3, 1, 4], "TrailingComma"],
-    ['["é😀",\n x]', "NotJson", null, [12, 2, 2], "WrongWord"],
-    [Uint8Array.of(0x22, 0xff, 0x22), "NotJson", null, [1, 1, 2], "NotUtf8"],
     ['"\ud800"', "NotJson", null, [1, 1, 2], "NotUtf8"],
-    ["[".repeat(128) + "]".repeat(128), "NotJson", null, [127, 1, 128], "TooManyLevels"],
-    ["[1e400]", "NotJson", null, [1, 1, 2], "BeyondFloat"],
-    ['{"a":[0,2.5]}', "NotWhole", "$['a'][1]", [8, 1, 9], "HasFraction"],
     [[0.5], "NotWhole", "$[0]", [1, 1, 2], "HasFraction"],
-    ["", "NotJson", null, [0, 1, 1], "Empty"],
   ]) {
     for (const call of [jp.find, jp.paths, jp.values, (query, it) => jp.findMany([query], it)]) {
       const refused = thrown(jp.DocumentError, () => call("$", document));
@@ -191,12 +137,11 @@ test("documents that are refused", () => {
 
 test("what is said of a document that is refused", () => {
   for (const [document, text] of [
-    ["[1,\n]", "NotJson\nline 2, column 1: No comma may come before a closing bracket."],
-    ["[-0]", "NotWhole at $[0]\nline 1, column 2: -0 is no whole number of 64 bits."],
+    ["[1,\n]", "NotJson\nline 2, column 1"],
+    ["[-0]", "NotWhole at $[0]\nline 1, column 2"],
   ]) {
     const refused = thrown(jp.DocumentError, () => jp.find("$", document));
-    assert.equal(refused.message, `document refused: ${text}`);
-    assert.ok(refused.message.endsWith(`: ${refused.sentence}`));
+    assert.equal(refused.message, `document refused: ${text}: ${refused.sentence}`);
   }
   assert.equal(new jp.DocumentError("NotWhole", "$[0]").message, "document refused: NotWhole at $[0]");
 });

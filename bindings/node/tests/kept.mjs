@@ -5,6 +5,7 @@ import test from "node:test";
 import v8 from "node:v8";
 import vm from "node:vm";
 import { eachLineBy, engine } from "../asking.mjs";
+import { NARROW, WIDE, hasWideMemory } from "../engines.mjs";
 import { Engine, KeptDocument, KeptQuery, UNLIMITED } from "../engine.mjs";
 import * as jp from "../jp.mjs";
 import { DOCUMENT_REFUSED, DONE, PATHS, QUERY_REFUSED, STANDARD, VALUES } from "../numbers.mjs";
@@ -296,7 +297,7 @@ test("what is kept goes on after the stack ran out", () => {
 
 // The module's memory, by the engine itself.
 
-const module = new WebAssembly.Module(readFileSync(new URL("../jp.wasm", import.meta.url)));
+const module = new WebAssembly.Module(readFileSync(hasWideMemory() ? WIDE : NARROW));
 // A document that takes more memory than is kept, and so does the text of its paths.
 const LARGE = bytesOf(`[${"0,".repeat(2_000_000)}1]`);
 const MOST = 1 << 26;

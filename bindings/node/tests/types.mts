@@ -42,11 +42,17 @@ const iterators: Iterable<jp.Match>[] = [query.findIter(document), document.find
 const texts: string[] = [jp.canonical("$"), jp.version(), `${query}`, query.text];
 console.log(kept, many, iterators, texts, jp.check("$"), jp.parse("$") instanceof jp.Query);
 
+// What is unknown, as an answer of fetch, and what is any.
+const told: unknown = { a: 1 };
+const parsed: jp.Match[] = [...jp.find("$", told), ...jp.find("$", JSON.parse("1")), ...query.find(told), ...jp.findIter("$", told)];
+console.log(parsed, new jp.Document(told), jp.findMany(["$"], told), jp.errorOf(told));
+
 const match = jp.findOne("$", document);
 if (match !== null) {
   const steps: (string | number)[] = match.steps;
   const value: jp.Value = match.value;
-  console.log(steps, value, match.path, match.text);
+  const pointer: string = match.pointer;
+  console.log(steps, value, match.path, match.text, pointer);
 }
 
 try {
@@ -57,7 +63,8 @@ try {
     console.log(fault.kind === "Syntax", place, column, sentence, fault.suggestion);
   } else if (fault instanceof jp.DocumentError) {
     const [line, reason, path]: [number | null, string | null, string | null] = [fault.line, fault.reason, fault.path];
-    console.log(fault.kind === "NotWhole", line, reason, path);
+    const suggestion: string | null = fault.suggestion;
+    console.log(fault.kind === "NotWhole", line, reason, path, suggestion);
   } else if (fault instanceof jp.StepsUsedUp) {
     const limit: bigint = fault.limit;
     console.log(limit);
@@ -80,5 +87,9 @@ query.find(document, { extended: true });
 jp.exists("$");
 // @ts-expect-error A symbol is no document.
 jp.find("$", Symbol("a"));
+// @ts-expect-error A function is no document.
+jp.values("$", () => 1);
+// @ts-expect-error Nothing is no document.
+jp.values("$", undefined);
 // @ts-expect-error It is only read.
 query.text = "$";

@@ -1,10 +1,12 @@
 """JSONPath queries (RFC 9535) over JSON documents, by the proved engine jp.
 
     >>> import jsonpath_jp as jp
-    >>> [match.value for match in jp.find("$..price", '{"a":[{"price":9},{"price":12}]}')]
+    >>> jp.values("$..price", '{"a":[{"price":9},{"price":12}]}')
     [9, 12]
     >>> jp.paths("$.a[-1]", {"a": [1, 2]})
     ["$['a'][1]"]
+    >>> [(match.pointer, match.value) for match in jp.find("$.a[-1]", {"a": [1, 2]})]
+    [('/a/1', 2)]
 
 A query that is asked more than once is kept, and so is a document:
 
@@ -14,9 +16,9 @@ A query that is asked more than once is kept, and so is a document:
     >>> query.find_one(document).steps
     ['a', 0, 'price']
 
-A document is JSON text, as `str` or `bytes`, or a Python object, which is written as JSON first. Its
-numbers are whole numbers of 64 bits, and are given back exactly. `extended=True` lets a query call
-`distinct`, which RFC 9535 does not have.
+A document is JSON text, as `str` or `bytes`, a file that is open or named by a path object, or a Python object,
+which is written as JSON first. Its numbers are whole numbers of 64 bits, and are given back exactly.
+`extended=True` lets a query call `distinct`, which RFC 9535 does not have.
 
 Some queries take years over a document of a few bytes. `limit=1_000_000` lets a query make at most a
 million steps over the document, and raises `StepsUsedUp` where it needs more. Without a limit a query

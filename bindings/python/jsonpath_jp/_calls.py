@@ -156,8 +156,8 @@ def _part(query: str, profile: int, part: int) -> Optional[str]:
 
 
 def _misreading(document: bytes) -> Tuple[Any, ...]:
-    """Where a document that is refused goes wrong, the name of the reason, and the sentence for it; nothing of
-    one that is too large to be read."""
+    """Where a document that is refused goes wrong, the name of the reason, the sentence for it, and a suggestion or
+    None; nothing of one that is too large to be read."""
     place = Place()
     reason = _part_of_misreading(document, _numbers.DOCUMENT_REASON, place)
     if reason is None:
@@ -165,10 +165,18 @@ def _misreading(document: bytes) -> Tuple[Any, ...]:
     # The sentence goes by the reason alone, so it is asked for once.
     if reason not in _sentences:
         _sentences[reason] = _part_of_misreading(document, _numbers.DOCUMENT_SENTENCE, place)
-    return place.offset, place.line, place.column, reason, _sentences[reason]
+    suggestion = _BY_LINES if reason == "AfterValue" and _is_of_lines(document[: place.offset]) else None
+    return place.offset, place.line, place.column, reason, _sentences[reason], suggestion
 
 
 _sentences: Dict[str, Optional[str]] = {}
+
+_BY_LINES = "Where each line is a document (JSON Lines), ask one after another: for line in file: query.find(line)"
+
+
+def _is_of_lines(before: bytes) -> bool:
+    """Whether all that stands before what is wrong is a value on one line, and the end of that line."""
+    return before.rstrip(b" \t").endswith(b"\n") and b"\n" not in before.strip()
 
 
 def _part_of_misreading(document: bytes, part: int, place: Place) -> Optional[str]:

@@ -1,10 +1,14 @@
-"""Documents as they are given: texts, and objects that are written as JSON first."""
+"""Documents as they are given: texts, files, and objects that are written as JSON first."""
+import collections
 import contextlib
 import json
 import math
-from typing import Any, Callable, List, NoReturn, Optional, Tuple
+import os
+from collections import abc
+from typing import Any, Callable, List, NoReturn, Optional, Tuple, Union
 
 from ._errors import DocumentError, printable
+from ._orjson import bytes_by_orjson
 from ._paths import Step, path_of
 
 Default = Optional[Callable[[Any], Any]]
@@ -18,20 +22,53 @@ def _writer(default: Default, sort_keys: bool) -> Callable[[Any], str]:
     return json.JSONEncoder(default=default, sort_keys=sort_keys, **how).encode
 
 
-_write = _writer(None, True)
+def _plain(value: Any) -> Union[dict, list, None]:
+    """The dict or the list that a mapping or a sequence of another type is written as; None of what is neither."""
+    if isinstance(value, abc.Mapping):
+        return dict(value)
+    is_text = isinstance(value, (bytes, bytearray, memoryview, collections.UserString))
+    return list(value) if isinstance(value, abc.Sequence) and not is_text else None
+
+
+def _plain_or_raised(value: Any) -> Union[dict, list]:
+    plain = _plain(value)
+    if plain is None:
+        raise TypeError
+    return plain
+
+
+_write = _writer(_plain_or_raised, True)
 
 
 def json_bytes(document: Any, default: Default = None) -> bytes:
-    """The bytes of a JSON text, or of what an object is written as. Raises `DocumentError` or `TypeError` where
-    an object is no document, with the path of the first thing in it that is none."""
+    """The bytes of a JSON text or a file, or of what an object is written as. Raises `DocumentError` or `TypeError`
+    where an object is no document, with the path of the first thing in it that is none, and what reading a file
+    raises."""
     if isinstance(document, bytes):
         return document
     if isinstance(document, (bytearray, memoryview)):
         return bytes(document)
     if not isinstance(document, str):
-        document = _written(document, default)
+        return _bytes_of_other(document, default)
     # Half of a surrogate pair becomes bytes that are no UTF-8, and so the document is refused.
     return document.encode("utf-8", "surrogatepass")
+
+
+def _bytes_of_other(document: Any, default: Default) -> bytes:
+    if isinstance(document, os.PathLike):
+        with open(document, "rb") as file:
+            return file.read()
+    if hasattr(document, "read"):
+        return _read(document)
+    # An object that is written so has no part that a `default` is called for.
+    return bytes_by_orjson(document) or _written(document, default).encode("utf-8", "surrogatepass")
+
+
+def _read(file: Any) -> bytes:
+    text = file.read()
+    if not isinstance(text, (str, bytes, bytearray, memoryview)):
+        raise TypeError(f"a file that is read gives str or bytes, and no {type(text).__name__}")
+    return json_bytes(text)
 
 
 def _written(value: Any, default: Default) -> str:
@@ -41,7 +78,7 @@ def _written(value: Any, default: Default) -> str:
         return (_write if default is None else _writer(default, True))(value)
     try:
         _refuse(value, default, [], ())
-        return _writer(default, False)(value)
+        return _writer(default or _plain_or_raised, False)(value)
     except RecursionError:
         raise _too_deep() from None
 
@@ -71,11 +108,12 @@ def _refuse_parts(value: Any, default: Default, steps: List[Step], above: Tuple[
     elif isinstance(value, (list, tuple)):
         for index, item in enumerate(value):
             _refuse(item, default, [*steps, index], above)
-    elif default is None:
-        name, path = type(value).__name__, printable(path_of(steps))
-        raise TypeError(f"no JSON is made of a {name}, as at {path}: give default=, as to json.dumps")
     else:
-        _refuse(default(value), default, steps, above)
+        part = _plain(value) if default is None else default(value)
+        if part is None and default is None:
+            name, path = type(value).__name__, printable(path_of(steps))
+            raise TypeError(f"no JSON is made of a {name}, as at {path}: give default=, as to json.dumps")
+        _refuse(part, default, steps, above)
 
 
 def _refuse_digits(number: int, steps: List[Step]) -> None:

@@ -47,7 +47,8 @@ class QueryError(Error, ValueError):
     def __str__(self) -> str:
         line = printable(self.query.replace("\n", " ").replace("\t", " ").replace("\r", " "))
         sentence = "" if self.sentence is None else f"\n{self.sentence}"
-        return f"query refused: {self.kind} at {self.place}\n{line}\n{' ' * self.column}^{sentence}"
+        suggestion = "" if self.suggestion is None else f"\nTry: {self.suggestion}"
+        return f"query refused: {self.kind} at {self.place}\n{line}\n{' ' * self.column}^{sentence}{suggestion}"
 
 
 class DocumentError(Error, ValueError):
@@ -57,7 +58,8 @@ class DocumentError(Error, ValueError):
     "NotWhole", the normalized path of the first number that is not a whole one of 64 bits, else None.
     offset: the byte of the document, in UTF-8, where it goes wrong, from 0. line and column: the same, in
     characters, both from 1. reason: the name of the reason, as "TrailingComma". sentence: the reason in
-    words. These five are None of "DocumentTooLarge", of which nothing was read.
+    words. These five are None of "DocumentTooLarge", of which nothing was read. suggestion: how a text is
+    asked that looks like JSON Lines, else None.
 
     Of a Python object that can't be written as JSON, as one with NaN, kind is "NotJson" and sentence says
     why. path is that of the first such thing in it, unless that is too deep, and there is no text of which
@@ -73,8 +75,9 @@ class DocumentError(Error, ValueError):
         column: Optional[int] = None,
         reason: Optional[str] = None,
         sentence: Optional[str] = None,
+        suggestion: Optional[str] = None,
     ) -> None:
-        super().__init__(kind, path, offset, line, column, reason, sentence)
+        super().__init__(kind, path, offset, line, column, reason, sentence, suggestion)
         self.kind = kind
         self.path = path
         self.offset = offset
@@ -82,12 +85,14 @@ class DocumentError(Error, ValueError):
         self.column = column
         self.reason = reason
         self.sentence = sentence
+        self.suggestion = suggestion
 
     def __str__(self) -> str:
         at = "" if self.path is None else f" at {printable(self.path)}"
         place = "" if self.line is None else f"line {self.line}, column {self.column}: "
         why = "" if self.sentence is None else f"\n{place}{self.sentence}"
-        return f"document refused: {self.kind}{at}{why}"
+        suggestion = "" if self.suggestion is None else f"\n{self.suggestion}"
+        return f"document refused: {self.kind}{at}{why}{suggestion}"
 
 
 class _BeyondLimit(Error):

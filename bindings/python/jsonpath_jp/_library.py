@@ -87,9 +87,24 @@ class Handle(ctypes.Structure):
                 on_a_thread(library.jp_clear, self)
 
 
-def _load() -> ctypes.CDLL:
+_MISSING = (
+    "{0} is missing: `bindings/build` of jp's repository makes it, proved, and `bindings/build --unproved` without "
+    "proofs, in two minutes"
+)
+
+
+def _opened() -> ctypes.CDLL:
     beside = os.path.join(os.path.dirname(os.path.abspath(__file__)), "libjp.so")
-    loaded = ctypes.CDLL(beside if os.path.exists(beside) else "libjp.so.0")
+    if os.path.exists(beside):
+        return ctypes.CDLL(beside)
+    try:
+        return ctypes.CDLL("libjp.so.0")
+    except OSError as fault:
+        raise ImportError(_MISSING.format(beside)) from fault
+
+
+def _load() -> ctypes.CDLL:
+    loaded = _opened()
     text = [ctypes.c_char_p, ctypes.c_size_t]
     report = [ctypes.POINTER(Report)]
     room = [ctypes.POINTER(ctypes.c_char), ctypes.c_size_t, *report]

@@ -1,4 +1,4 @@
-"""Normalized paths (RFC 9535, section 2.7), and the names and indexes that they are made of."""
+"""Normalized paths (RFC 9535, section 2.7), the names and indexes that they are made of, and JSON Pointers."""
 import re
 from typing import List, Sequence, Union
 
@@ -37,6 +37,11 @@ def path_of(steps: Sequence[Step]) -> str:
     """The normalized path of names and indexes."""
     parts = (f"'{step.translate(_SPELLED)}'" if isinstance(step, str) else str(step) for step in steps)
     return "$" + "".join(f"[{part}]" for part in parts)
+
+
+def pointer_of(steps: Sequence[Step]) -> str:
+    """The JSON Pointer (RFC 6901) of names and indexes."""
+    return "".join("/" + str(step).replace("~", "~0").replace("/", "~1") for step in steps)
 
 
 def _meant(escape: "re.Match[str]") -> str:

@@ -2,29 +2,36 @@
 import functools
 import json
 import operator
-from typing import Any, Iterable, Iterator, List, Optional, Tuple, Union
+import os
+from typing import Any, Iterable, Iterator, List, Mapping, Optional, Protocol, Sequence, Tuple, Union
 
 from . import _engine, _numbers
 from ._documents import Default, json_bytes
 from ._errors import DocumentError, Error, QueryError, QueryFault
 from ._kept import ALL, FIRST, Cursor, KeptDocument, KeptQuery, Span
 from ._limits import ANY, Most
-from ._paths import Step, steps_of
+from ._paths import Step, pointer_of, steps_of
+
+# The values of so many matches are made together at most.
+_LARGEST_PAGE = 64
+# In characters: where lines are longer, what it takes to make values one by one is little beside the values.
+_LONG_LINE = 1 << 10
 
 
 class Match:
     """A node that a query selects.
 
-    path: its normalized path (RFC 9535, section 2.7). steps: the names and indexes of the path, from the
-    root on. text: its value as compact JSON. value: its value as a Python object, made when it is first
-    asked for, and kept; whole numbers are exact.
+    path: its normalized path (RFC 9535, section 2.7). pointer: its JSON Pointer (RFC 6901). steps: the names and
+    indexes of the path, from the root on. text: its value as compact JSON. value: its value as a Python object, made
+    when it is first asked for, and kept; whole numbers are exact.
     """
 
     # The path and the text are parted when one is asked for: most of what a call takes here is to make these.
-    __slots__ = ("_line", "_steps", "_value")
+    __slots__ = ("_line", "_page", "_at", "_steps", "_value")
 
     def __init__(self, path: str, text: str) -> None:
         self._line = f"{path}\t{text}"
+        self._page: Optional[_Page] = None
 
     @property
     def path(self) -> str:
@@ -39,7 +46,10 @@ class Match:
         try:
             return self._value
         except AttributeError:
-            self._value = json.loads(self.text)
+            pass
+        page = self._page
+        self._value = json.loads(self.text) if page is None else page.value(self._at)
+        self._page = None
         return self._value
 
     @property
@@ -49,6 +59,10 @@ class Match:
         except AttributeError:
             self._steps = steps_of(self.path)
         return self._steps
+
+    @property
+    def pointer(self) -> str:
+        return pointer_of(self.steps)
 
     @property
     def full_path(self) -> str:
@@ -68,6 +82,23 @@ class Match:
 
     def __reduce__(self) -> Tuple[Any, ...]:
         return Match, (self.path, self.text)
+
+
+class _Page:
+    """Some matches that stand beside one another in an answer. Their values are made together when the first of them is
+    asked for."""
+
+    __slots__ = ("_lines", "_values")
+
+    def __init__(self, lines: List[str]) -> None:
+        self._lines = lines
+        self._values: Optional[List[Any]] = None
+
+    def value(self, at: int) -> Any:
+        if self._values is None:
+            texts = [line.partition("\t")[2] for line in self._lines]
+            self._values = json.loads(f"[{','.join(texts)}]")
+        return self._values[at]
 
 
 class Query:
@@ -238,8 +269,17 @@ class Document:
         return Document, (self.text,)
 
 
-# A `str` or `bytes` is JSON text, a `Document` is kept, and anything else is written as JSON.
-Asked = Union[str, bytes, bytearray, memoryview, dict, list, tuple, int, bool, None, Document]
+class _Readable(Protocol):
+    def read(self) -> Any:
+        """All of a file, as `str` or `bytes`."""
+
+
+# A `str` or `bytes` is JSON text, a path object names a file, and what can be read is one; a `Document` is kept, and
+# anything else is written as JSON.
+Asked = Union[
+    str, bytes, bytearray, memoryview, "os.PathLike[str]", "os.PathLike[bytes]", _Readable,
+    Mapping[Any, Any], Sequence[Any], int, float, None, Document,
+]
 Asking = Union[str, Query]
 
 
@@ -401,7 +441,7 @@ def _in_order(fault: QueryError, document: Asked) -> QueryError:
     if fault.place != 0 or start is None or not document.startswith(start):
         return fault
     sentence = f"{fault.sentence} The query comes before the document."
-    return QueryError(fault.kind, fault.place, fault.query, sentence, fault.suggestion)
+    return QueryError(fault.kind, fault.place, fault.query, sentence)
 
 
 def _find_or_error(
@@ -432,7 +472,7 @@ def _compiled_text(text: str, profile: int) -> Query:
 
 def _match(line: str) -> Match:
     match = _bare(Match)
-    match._line = line
+    match._line, match._page = line, None
     return match
 
 
@@ -440,12 +480,26 @@ _bare = object.__new__
 
 
 def _matches(text: str) -> List[Match]:
-    # As `_match`, which would cost as much again to call.
-    found = _lines(text)
-    for at, line in enumerate(found):
-        found[at] = match = _bare(Match)
-        match._line = line
-    return found
+    lines = _lines(text)
+    if len(text) > _LONG_LINE * len(lines):
+        return [_match(line) for line in lines]
+    matches: List[Match] = []
+    size = 1
+    # Who asks for the first value alone waits for that one.
+    while len(matches) < len(lines):
+        matches += _page_of(lines[len(matches) : len(matches) + size])
+        size = min(2 * size, _LARGEST_PAGE)
+    return matches
+
+
+def _page_of(lines: List[str]) -> List[Match]:
+    page, matches = _Page(lines), []
+    for at, line in enumerate(lines):
+        # As `_match`, which would cost as much again to call.
+        match = _bare(Match)
+        match._line, match._page, match._at = line, page, at
+        matches.append(match)
+    return matches
 
 
 def _lines(text: str) -> List[str]:

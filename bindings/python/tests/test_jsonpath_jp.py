@@ -1,4 +1,4 @@
-"""What Python users see. Expected values are those of RFC 9535, or by hand."""
+"""What Python users see besides what bindings/rows.jsonl has. Expected values are by hand."""
 import ctypes
 import doctest
 import json
@@ -36,13 +36,6 @@ class Find(unittest.TestCase):
         self.assertEqual(found[0].full_path, found[0].path)
         self.assertEqual(found[0].text, '"Sayings"')
 
-    def test_order_and_repeats(self):
-        self.assertEqual(jp.values("$[::-1]", "[1,2,3]"), [3, 2, 1])
-        self.assertEqual(jp.paths("$[0,0]", "[1,2,3]"), ["$[0]", "$[0]"])
-
-    def test_nothing_selected(self):
-        self.assertEqual(jp.find("$.nothing", STORE), [])
-
     def test_many_queries(self):
         queries = ["$.a[*]", "$.a[01]", "$.é", "", "$.b", "$\0", "$.a"]
         answers = jp.find_many(queries, {"a": [1, "é" * 5000]})
@@ -64,21 +57,18 @@ class Find(unittest.TestCase):
     def test_whole_numbers_are_exact(self):
         doubles = [2**53 - 1, 2**53, 2**53 + 1, 2**60, 2**63 - 1]
         for whole in [*doubles, *(-it for it in doubles), 2**63, -(2**63), 2**64 - 1]:
-            for document in (f"[{whole}]", [whole], jp.Document([whole])):
+            for document in ([whole], jp.Document([whole])):
                 with self.subTest(whole=whole, document=repr(document)):
                     self.assertEqual(jp.find_one("$[0]", document).text, str(whole))
                     self.assertEqual(jp.values("$[0]", document), [whole])
-                    self.assertEqual(jp.values(f"$[?@=={whole}]", document), [whole])
-                    self.assertEqual(jp.values(f"$[?@!={whole}]", document), [])
 
     def test_whole_numbers_beyond_64_bits(self):
         for whole in (2**64, -(2**63) - 1, 10**30):
-            for document in (f"[0,{whole}]", [0, whole]):
-                with self.assertRaises(jp.DocumentError) as caught:
-                    jp.find("$", document)
-                fault = caught.exception
-                self.assertEqual((fault.kind, fault.path, fault.column), ("NotWhole", "$[1]", 4))
-                self.assertEqual(fault.sentence, "This number is outside -(2^63) to (2^64)-1.")
+            with self.assertRaises(jp.DocumentError) as caught:
+                jp.find("$", [0, whole])
+            fault = caught.exception
+            self.assertEqual((fault.kind, fault.path, fault.column), ("NotWhole", "$[1]", 4))
+            self.assertEqual(fault.reason, "OutOfRange")
 
     def test_documents_as_text_bytes_and_objects(self):
         for document in ['{"é":[1]}', '{"é":[1]}'.encode(), bytearray('{"é":[1]}'.encode()), {"é": [1]}]:
@@ -97,24 +87,8 @@ class Find(unittest.TestCase):
         self.assertEqual(jp.values("$[*]", items), items)
         self.assertEqual(jp.values("$[0]", [["x" * 3_000_000]]), [["x" * 3_000_000]])
 
-    def test_functions(self):
-        people = [{"id": 1, "born": "1815"}, {"id": 2, "born": "1791"}]
-        self.assertEqual(jp.values('$[?match(@.born,"18..")].id', people), [1])
-        self.assertEqual(jp.values('$[?search(@.born,"79")].id', people), [2])
-        self.assertEqual(jp.values("$[?length(@.born)==4].id", people), [1, 2])
-
-    def test_extended(self):
-        items = [{"a": 0}, {}]
-        self.assertEqual(jp.paths("$[?distinct(@.*)]", items, extended=True), ["$[0]"])
-        with self.assertRaises(jp.QueryError) as refused:
-            jp.paths("$[?distinct(@.*)]", items)
-        self.assertEqual((refused.exception.kind, refused.exception.place), ("UnknownFunction", 3))
-
 
 class Queries(unittest.TestCase):
-    def test_canonical_text(self):
-        self.assertEqual(jp.canonical("$ .a [ ?(@.b==-0) ]"), "$['a'][?@['b']==0]")
-
     def test_check(self):
         self.assertIsNone(jp.check("$..a"))
         with self.assertRaises(jp.QueryError):
@@ -135,38 +109,21 @@ class Refusals(unittest.TestCase):
             jp.find("$.a[01]", "[]")
         fault = refused.exception
         self.assertEqual((fault.kind, fault.place, fault.column), ("Syntax", 5, 5))
-        text = "query refused: Syntax at 5\n$.a[01]\n     ^\nA number does not begin with `0`, unless it is 0."
+        text = f"query refused: Syntax at 5\n$.a[01]\n     ^\n{fault.sentence}\nTry: $.a[1]"
         self.assertEqual(str(fault), text)
         self.assertIsInstance(fault, ValueError)
         self.assertEqual(str(pickle.loads(pickle.dumps(fault))), text)
 
-    def test_a_sentence_and_a_suggestion(self):
-        for query, sentence, suggestion in [
-            ("$[?@.a = 1]", "Values are compared with `==` and `!=`.", "$[?@.a == 1]"),
-            ("$[?@.é = 1]", "Values are compared with `==` and `!=`.", "$[?@.é == 1]"),
-            ("$[?@.a==1e400]", "Numbers in queries are whole: write 10, and neither 10.0 nor 1e1.", None),
-            ("$.\ud800", None, None),
-        ]:
-            for call in (jp.check, jp.canonical, jp.parse, lambda it: jp.find(it, "[]")):
-                with self.assertRaises(jp.QueryError) as refused:
-                    call(query)
-                fault = refused.exception
-                self.assertEqual((fault.sentence, fault.suggestion), (sentence, suggestion))
-            (answer,) = jp.find_many([query], "[]")
-            self.assertEqual((answer.sentence, answer.suggestion), (sentence, suggestion))
+    def test_without_a_sentence(self):
+        for call in (jp.check, jp.canonical, jp.parse, lambda it: jp.find(it, "[]")):
+            with self.assertRaises(jp.QueryError) as refused:
+                call("$.\ud800")
+            fault = refused.exception
+            self.assertEqual((fault.kind, fault.place), ("Syntax", 2))
+            self.assertEqual((fault.sentence, fault.suggestion), (None, None))
+        (answer,) = jp.find_many(["$.\ud800"], "[]")
+        self.assertEqual((answer.sentence, answer.suggestion), (None, None))
         self.assertEqual(str(jp.QueryError("Syntax", 1, "$[")), "query refused: Syntax at 1\n$[\n ^")
-
-    def test_each_profile_has_its_sentence(self):
-        query = "$[?distinct(@.*) = 1]"
-        with self.assertRaises(jp.QueryError) as refused:
-            jp.check(query)
-        self.assertIn("Values are compared", refused.exception.sentence)
-        with self.assertRaises(jp.QueryError) as refused:
-            jp.check("$[?distinct(@.*)]")
-        self.assertIn("`distinct`", refused.exception.sentence)
-        with self.assertRaises(jp.QueryError) as refused:
-            jp.check("$[?distinct(@.*)==1]", extended=True)
-        self.assertNotIn("--extended", refused.exception.sentence)
 
     def test_the_caret_is_under_a_character(self):
         with self.assertRaises(jp.QueryError) as refused:
@@ -174,33 +131,11 @@ class Refusals(unittest.TestCase):
         self.assertEqual((refused.exception.place, refused.exception.column), (6, 5))
         self.assertEqual(str(refused.exception).split("\n")[2], "     ^")
 
-    def test_kinds(self):
-        for query, kind, place in [
-            ("$[9007199254740992]", "IndexRange", 2),
-            ("$[?@.a==1.5]", "NotWhole", 8),
-            ("$[?@.a==99999999999999999999]", "NumberRange", 8),
-            ("$[?length()==1]", "ArgumentCount", 3),
-            ("$[?@.*==1]", "NotSingular", 3),
-            ("$[?value(@..color)]", "IllTyped", 3),
-            ("$[?" + "(" * 200, "TooDeep", 130),
-            ("$.\ud800", "Syntax", 2),
-        ]:
-            with self.subTest(query=query):
-                with self.assertRaises(jp.QueryError) as refused:
-                    jp.check(query)
-                self.assertEqual((refused.exception.kind, refused.exception.place), (kind, place))
-
-    def test_documents(self):
+    def test_documents_of_python(self):
         for document, kind, path, place, reason in [
-            ("[1,]", "NotJson", None, (3, 1, 4), "TrailingComma"),
-            ('["é",\n x]', "NotJson", None, (8, 2, 2), "WrongWord"),
-            (b'"\xff"', "NotJson", None, (1, 1, 2), "NotUtf8"),
             ('"\ud800"', "NotJson", None, (1, 1, 2), "NotUtf8"),
-            ("[" * 128 + "]" * 128, "NotJson", None, (127, 1, 128), "TooManyLevels"),
-            ('{"a":[0,2.5]}', "NotWhole", "$['a'][1]", (8, 1, 9), "HasFraction"),
             ([1e400], "NotJson", "$[0]", (None, None, None), None),
             ([0.5], "NotWhole", "$[0]", (1, 1, 2), "HasFraction"),
-            ("", "NotJson", None, (0, 1, 1), "Empty"),
         ]:
             calls = (jp.find, jp.paths, jp.values, lambda it, document: jp.find_many([it], document))
             for query in ("$", "$.*"):
@@ -215,16 +150,39 @@ class Refusals(unittest.TestCase):
 
     def test_what_a_document_error_says(self):
         for document, text in [
-            ("[1,\n]", "NotJson\nline 2, column 1: No comma may come before a closing bracket."),
-            ("[-0]", "NotWhole at $[0]\nline 1, column 2: -0 is no whole number of 64 bits."),
+            ("[1,\n]", "NotJson\nline 2, column 1: "),
+            ("[-0]", "NotWhole at $[0]\nline 1, column 2: "),
         ]:
             with self.assertRaises(jp.DocumentError) as refused:
                 jp.find("$", document)
             fault = refused.exception
-            self.assertEqual(str(fault), f"document refused: {text}")
-            self.assertTrue(str(fault).endswith(fault.sentence))
+            self.assertEqual(str(fault), f"document refused: {text}{fault.sentence}")
             self.assertEqual(str(pickle.loads(pickle.dumps(fault))), str(fault))
         self.assertEqual(str(jp.DocumentError("NotWhole", "$[0]")), "document refused: NotWhole at $[0]")
+
+    def test_lines_that_are_documents(self):
+        for document, is_told in [
+            ('{"a":1}\n{"a":2}\n', True),
+            ("1\r\n\r\n 2", True),
+            ("\n[1, 2] \n[3]", True),
+            ("1 2", False),
+            ("[1,\n2]\n3", False),
+            ('{"a":1},\n{"a":2}', False),
+            ("1\n]", True),
+            ("[1]\n[2", True),
+        ]:
+            for given in (document, document.encode()):
+                with self.assertRaises(jp.DocumentError) as refused:
+                    jp.find("$", given)
+                fault = refused.exception
+                self.assertEqual(fault.reason, "AfterValue")
+                self.assertEqual(fault.suggestion is not None, is_told, document)
+                last = str(fault).split("\n")[-1]
+                self.assertEqual("JSON Lines" in last and "for line in file" in last, is_told)
+                self.assertEqual(pickle.loads(pickle.dumps(fault)).suggestion, fault.suggestion)
+        with self.assertRaises(jp.DocumentError) as refused:
+            jp.find("$", "1\n[2,]"[2:])
+        self.assertIsNone(refused.exception.suggestion)
 
     def test_a_document_that_is_too_large(self):
         # So many bytes that are never read take no memory; the package copies what is no `bytes`.
@@ -240,10 +198,6 @@ class Refusals(unittest.TestCase):
                 self.assertIsInstance(fault, jp.DocumentError)
                 self.assertEqual((fault.kind, fault.path, fault.offset), ("DocumentTooLarge", None, None))
             del first
-
-    def test_the_query_first(self):
-        with self.assertRaises(jp.QueryError):
-            jp.find("$[", "[1,")
 
 
 class Limits(unittest.TestCase):

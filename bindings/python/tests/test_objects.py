@@ -1,18 +1,41 @@
 """Python objects as documents, and arguments that are refused. Expected values are by hand."""
 import collections
+import dataclasses
+import datetime
 import decimal
 import enum
+import io
+import pathlib
 import sys
+import tempfile
+import types
 import unittest
+import uuid
+from unittest import mock
 
 import jsonpath_jp as jp
+from jsonpath_jp import _orjson
 
 
 class Number(enum.IntEnum):
     ONE = 1
 
 
+class Named(enum.Enum):
+    TEXT = "text"
+
+
+@dataclasses.dataclass
+class Record:
+    name: str = "a"
+
+
 Point = collections.namedtuple("Point", "x y")
+
+# What orjson writes and json.dumps refuses.
+OF_ORJSON = [
+    uuid.UUID(int=0), Named.TEXT, Record(), datetime.datetime(2020, 1, 1), datetime.date(2020, 1, 1), datetime.time(1),
+]
 
 # What `find` and the others are called with, and the words of the TypeError.
 WRONG_TYPES = [
@@ -53,6 +76,31 @@ class Objects(unittest.TestCase):
         ]:
             (match,) = jp.find("$", document)
             self.assertEqual(match.text, text)
+
+    def test_mappings_and_sequences_of_other_types(self):
+        for document, text in [
+            (types.MappingProxyType({"b": 1, "a": {2: 3}}), '{"a":{"2":3},"b":1}'),
+            ({"a": collections.UserDict(b=range(3))}, '{"a":{"b":[0,1,2]}}'),
+            ([collections.deque([1, None]), collections.ChainMap({"a": 1}, {"b": 2})], '[[1,null],{"a":1,"b":2}]'),
+        ]:
+            self.assertEqual(jp.find("$", document)[0].text, text)
+        # What is given as default= is asked before.
+        self.assertEqual(jp.values("$[0]", [range(3)], default=str), ["range(0, 3)"])
+        for document, name in [
+            ([bytearray(b"a")], "bytearray"), ([memoryview(b"a")], "memoryview"), ([collections.UserString("a")], "UserString"),
+        ]:
+            with self.assertRaisesRegex(TypeError, rf"no JSON is made of a {name}, as at \$\[0\]"):
+                jp.find("$", document)
+        with self.assertRaises(jp.DocumentError) as caught:
+            jp.find("$", collections.UserDict(a=[float("nan")]))
+        self.assertEqual(caught.exception.path, "$['a'][0]")
+
+    def test_types_that_orjson_writes(self):
+        for value in OF_ORJSON:
+            for document in (value, [None, value], {"a": (value,)}):
+                with self.assertRaisesRegex(TypeError, f"no JSON is made of a {type(value).__name__}, as at "):
+                    jp.find("$", document)
+                self.assertIn('"other"', jp.find("$", document, default=lambda it: "other")[0].text)
 
     def test_default(self):
         document = {"a": decimal.Decimal("1.5"), "b": [{3}]}
@@ -158,6 +206,80 @@ class Objects(unittest.TestCase):
             jp.check("$.\ud800")
         self.assertEqual(str(caught.exception), "query refused: Syntax at 2\n$.\ufffd\n  ^")
         self.assertEqual(caught.exception.query, "$.\ud800")
+
+
+class ObjectsWithoutOrjson(Objects):
+    def setUp(self):
+        hidden = mock.patch.object(_orjson, "orjson", None)
+        hidden.start()
+        self.addCleanup(hidden.stop)
+
+    def test_that_it_is_hidden(self):
+        self.assertIsNone(_orjson.bytes_by_orjson([1]))
+
+
+@unittest.skipIf(_orjson.orjson is None, "orjson is not installed")
+class ByOrjson(unittest.TestCase):
+    def test_what_it_writes(self):
+        characters = "".join(map(chr, [*range(0x100), 0x2028, 0xfeff, 0xffff, 0x1f600]))
+        for document, text in [
+            ({"b": [True, False, 0], "a": ["é😀"]}, '{"a":["é😀"],"b":[true,false,0]}'),
+            ([2**64 - 1, -(2**63), 2**53 + 1], "[18446744073709551615,-9223372036854775808,9007199254740993]"),
+            ([None, {"null": None}], '[null,{"null":null}]'),
+            ((1, ()), "[1,[]]"),
+            ({"\uffff": 1, "\U0001f600": 2}, '{"\uffff":1,"\U0001f600":2}'),
+        ]:
+            self.assertEqual(_orjson.bytes_by_orjson(document), text.encode())
+            self.assertEqual(jp.Document(document).text, text.encode())
+        for document in ({characters: characters}, [characters[::-1]]):
+            by_json = self.text_by_json(document)
+            self.assertEqual(_orjson.bytes_by_orjson(document), by_json)
+            self.assertEqual(jp.values("$", document), [document])
+
+    def text_by_json(self, document):
+        with mock.patch.object(_orjson, "orjson", None):
+            return jp.Document(document).text
+
+    def test_what_is_left_to_json(self):
+        nested, inside = (), []
+        for _ in range(3000):
+            nested = (nested,)
+        inside.append((inside,))
+        for document in (
+            [float("nan")], [float("inf"), None], [2**64], {1: 2}, ["\ud800"], {"\udfff": 0}, nested, inside,
+            [Number.ONE], collections.OrderedDict(a=1), *OF_ORJSON, [{1}], [b"a"], [1.5],
+        ):
+            self.assertIsNone(_orjson.bytes_by_orjson(document), type(document))
+
+
+class Files(unittest.TestCase):
+    def test_files_and_paths(self):
+        with tempfile.TemporaryDirectory() as folder:
+            path = pathlib.Path(folder, "é.json")
+            path.write_bytes('{"é":[1]}'.encode())
+            for call in (lambda it: jp.paths("$.é[0]", it), lambda it: jp.compile("$.é[0]").paths(it),
+                         lambda it: jp.Document(it).paths("$.é[0]"), lambda it: jp.find_many(["$.é[0]"], it)[0][0].path,
+                         lambda it: [match.path for match in jp.finditer("$.é[0]", it)]):
+                with open(path, "rb") as binary, open(path, encoding="utf-8") as text:
+                    for document in (path, binary, text):
+                        self.assertIn("$['é'][0]", call(document))
+            with self.assertRaises(FileNotFoundError):
+                jp.find("$", pathlib.Path(folder, "none"))
+            with self.assertRaises(IsADirectoryError):
+                jp.find("$", pathlib.Path(folder))
+
+    def test_files_that_are_no_document(self):
+        for file, reason in [
+            (io.BytesIO('["é"]'.encode("latin-1")), "NotUtf8"),
+            (io.BytesIO("[]".encode("utf-16")), "Utf16"),
+            (io.StringIO("\ufeff[]"), "ByteOrderMark"),
+            (io.BytesIO(b""), "Empty"),
+        ]:
+            with self.assertRaises(jp.DocumentError) as caught:
+                jp.find("$", file)
+            self.assertEqual(caught.exception.reason, reason)
+        with self.assertRaisesRegex(TypeError, "gives str or bytes, and no NoneType"):
+            jp.find("$", mock.Mock(read=lambda: None))
 
 
 class Arguments(unittest.TestCase):

@@ -12,6 +12,7 @@ import tarfile
 import tempfile
 import unittest
 import zipfile
+from unittest import mock
 
 import jsonpath_jp as jp
 
@@ -79,6 +80,15 @@ class Package(unittest.TestCase):
         for name in jp.__all__:
             self.assertTrue(getattr(jp, name).__doc__, name)
 
+    def test_a_folder_without_the_library(self):
+        ignored = shutil.ignore_patterns("libjp.so")
+        shutil.copytree(os.path.join(FOLDER, "jsonpath_jp"), os.path.join(self.room, "jsonpath_jp"), ignore=ignored)
+        words = [sys.executable, "-c", "import jsonpath_jp"]
+        place = {**os.environ, "PYTHONPATH": self.room, "LD_LIBRARY_PATH": ""}
+        said = subprocess.run(words, capture_output=True, text=True, check=False, cwd=self.room, env=place)
+        last = said.stderr.splitlines()[-1]
+        self.assertRegex(last, "^ImportError: .*/jsonpath_jp/libjp.so is missing: .*`bindings/build --unproved`")
+
     def test_the_wheel(self):
         path, files = self.made("build_wheel")
         self.assert_wheel(files)
@@ -87,6 +97,21 @@ class Package(unittest.TestCase):
         if shutil.which("auditwheel"):
             said = subprocess.run(["auditwheel", "show", path], capture_output=True, text=True, check=False)
             self.assertEqual(said.returncode, 0, said.stderr)
+
+    def test_the_platform_of_a_wheel(self):
+        name = backend().build_wheel(self.room, {"platform": "manylinux_2_34_x86_64"})
+        self.assertEqual(name, f"jsonpath_jp-{VERSION}-py3-none-manylinux_2_34_x86_64.whl")
+        with zipfile.ZipFile(os.path.join(self.room, name)) as archive:
+            said = archive.read(f"jsonpath_jp-{VERSION}.dist-info/WHEEL").decode()
+        self.assertIn("\nTag: py3-none-manylinux_2_34_x86_64\n", said)
+
+    def test_the_date_of_a_wheel(self):
+        for epoch, date in (("1800000000", (2027, 1, 15, 8, 0, 0)), ("0", (1980, 1, 1, 0, 0, 0))):
+            with mock.patch.dict(os.environ, SOURCE_DATE_EPOCH=epoch):
+                name = backend().build_wheel(self.room)
+            with zipfile.ZipFile(os.path.join(self.room, name)) as archive:
+                self.assertEqual({it.date_time for it in archive.infolist()}, {date})
+                self.assertEqual({it.external_attr >> 16 for it in archive.infolist()}, {0o100644})
 
     def test_the_wheel_that_is_edited(self):
         path, files = self.made("build_editable")

@@ -1,4 +1,4 @@
-"""The names and indexes of normalized paths (RFC 9535, section 2.7). Expected values are by hand."""
+"""The names and indexes of normalized paths (RFC 9535, section 2.7), and JSON Pointers. Expected values are by hand."""
 import unittest
 
 import jsonpath_jp as jp
@@ -28,6 +28,25 @@ NO_PATHS = [
     r"$['\u0041']", r"$['\/']", r"$['\"']", r"$['\x']", r"$['\u00']", r"$['\']", "$['a'b']", "$['\ud800']", "$[١]",
 ]
 
+# Those of RFC 6901, section 5, and others by its section 3, each beside the normalized path.
+POINTERS = [
+    ("$", ""),
+    ("$['foo']", "/foo"),
+    ("$['foo'][0]", "/foo/0"),
+    ("$['']", "/"),
+    ("$['a/b']", "/a~1b"),
+    ("$['c%d']", "/c%d"),
+    ("$['e^f']", "/e^f"),
+    ("$['g|h']", "/g|h"),
+    (r"$['i\\j']", r"/i\j"),
+    ("$['k\"l']", '/k"l'),
+    ("$[' ']", "/ "),
+    ("$['m~n']", "/m~0n"),
+    ("$['~1']['/0']", "/~01/~10"),
+    (r"$['\'']['\n\u0000']", "/'/\n\0"),
+    ("$['é😀']['0'][10]", "/é😀/0/10"),
+]
+
 
 class Paths(unittest.TestCase):
     def test_steps(self):
@@ -36,6 +55,14 @@ class Paths(unittest.TestCase):
                 self.assertEqual(steps_of(path), steps)
                 self.assertEqual(path_of(steps), path)
                 self.assertEqual(jp.Match(path, "0").steps, steps)
+
+    def test_pointers(self):
+        for path, pointer in POINTERS:
+            with self.subTest(path=path):
+                self.assertEqual(jp.Match(path, "0").pointer, pointer)
+        document = {"foo": ["bar", "baz"], "": 0, "a/b": 1, "i\\j": 5, "m~n": 8}
+        pointers = [match.pointer for match in jp.find("$..*", document)]
+        self.assertEqual(pointers, ["/", "/a~1b", "/foo", r"/i\j", "/m~0n", "/foo/0", "/foo/1"])
 
     def test_what_is_no_normalized_path(self):
         for path in NO_PATHS:

@@ -1,14 +1,25 @@
-"""The rows of the standard, as they stand in jp_command's table, and seeded programs, by the calls of Python."""
+"""The rows of bindings/rows.jsonl, and seeded programs, by the calls of Python."""
 import json
 import os
 import subprocess
 import sys
 import unittest
+from typing import NamedTuple
 
 import jsonpath_jp as jp
-from rows import ROOT, Row, rows
 
-COMPARE = os.path.join(ROOT, "bindings", "compare")
+BINDINGS = os.path.dirname(os.path.dirname(os.path.dirname(os.path.realpath(__file__))))
+sys.path.insert(0, BINDINGS)
+
+import rows  # noqa: E402
+
+# What the row asks; a query's error does not tell the name of its reason.
+ASKED = {"from", "profile", "query", "document", "bytes", "not"}
+
+
+class Told(NamedTuple):
+    path: str
+    text: str
 
 
 def by_kept_query(query, document, extended):
@@ -21,64 +32,107 @@ def by_kept_document(query, document, extended):
     return list(jp.Document(document).finditer(query, extended))
 
 
-def given(row: Row, find):
-    """What Python gives for a row, in the row's words."""
-    try:
-        if row.kind == "Canonical":
-            return row.kind, jp.canonical(row.query, row.is_extended)
-        found = find(row.query, row.document, row.is_extended)
-    except jp.QueryError as fault:
-        return "Query", f"{fault.kind} at {fault.place}"
-    except jp.DocumentError as fault:
-        return "Document", fault.kind
-    return "Nodes", [(match.path, match.text) for match in found]
+def by_many(query, document, extended):
+    (answer,) = jp.find_many([query], document, extended)
+    if isinstance(answer, jp.Error):
+        raise answer
+    return answer
 
 
-class Rows(unittest.TestCase):
-    def test_each_row(self):
-        count = 0
-        for row in rows():
-            for find in (jp.find, by_kept_query, by_kept_document):
-                with self.subTest(query=row.query, document=row.document, extended=row.is_extended):
-                    self.assertEqual(given(row, find), (row.kind, row.given))
-            count += 1
-        self.assertGreater(count, 600)
+def by_canonical(query, _, extended):
+    return jp.canonical(query, extended)
+
+
+def by_check(query, _, extended):
+    jp.check(query, extended)
+    return []
+
+
+def by_text(query, document, extended):
+    return jp.find(query, document.decode(), extended)
+
+
+def by_paths_and_values(query, document, extended):
+    """The values are told as compact texts."""
+    values = jp.values(query, document, extended)
+    texts = [json.dumps(it, ensure_ascii=False, separators=(",", ":"), sort_keys=True) for it in values]
+    return list(map(Told, jp.paths(query, document, extended), texts))
 
 
 def told(find, *words):
-    """What a way to ask gives, or all that its error tells."""
+    """What a way to ask gives, in the fields of a row."""
     try:
-        return [(match.path, match.text) for match in find(*words)]
-    except jp.Error as fault:
-        return type(fault), fault.args
+        found = find(*words)
+    except jp.QueryError as fault:
+        return {"refused": "Query", "kind": fault.kind, "place": fault.place, "sentence": fault.sentence,
+                "suggestion": fault.suggestion or ""}
+    except jp.DocumentError as fault:
+        return {"refused": "Document", "kind": fault.kind, "place": fault.offset, "line": fault.line,
+                "column": fault.column, "at": fault.path or "", "reason": fault.reason, "sentence": fault.sentence}
+    if isinstance(found, str):
+        return {"canonical": found}
+    return {"paths": [match.path for match in found], "values": [match.text for match in found]}
+
+
+def expected(row):
+    names = set(row) - ASKED - ({"reason"} if row.get("refused") == "Query" else set())
+    return {name: row[name] for name in names}
+
+
+class Rows(unittest.TestCase):
+    maxDiff = None
+
+    def test_each_row(self):
+        head, all_rows = rows.read()
+        ran = [self.assert_row(row) for row in all_rows if "python" not in row.get("not", ())]
+        skipped = sum("python" in row.get("not", ()) for row in all_rows)
+        self.assertEqual(len(ran) + skipped, head["rows"])
+        print(f"{len(ran)} rows by Python, {skipped} not")
+
+    def assert_row(self, row):
+        """Each way to ask gives what the row says."""
+        document = rows.document_of(row)
+        ways = [] if document is None else [jp.find, by_kept_query, by_kept_document, by_many, by_paths_and_values]
+        if "document" in row:
+            ways.append(by_text)
+        if document is None or row.get("refused") == "Query":
+            ways.append(by_canonical)
+        if row.get("refused") == "Query":
+            ways.append(by_check)
+        for find in ways:
+            with self.subTest(row=row, by=find.__name__):
+                given = told(find, row["query"], document, row["profile"] == "Extended")
+                wanted = expected(row)
+                self.assertEqual({name: given.get(name) for name in wanted}, wanted)
 
 
 class Programs(unittest.TestCase):
     def test_what_is_kept_answers_as_find_does(self):
-        words = [sys.executable, COMPARE, "--rows", "2000"]
+        words = [sys.executable, os.path.join(BINDINGS, "compare"), "--rows", "2000"]
         said = subprocess.run(words, capture_output=True, text=True, check=True).stdout
         count = 0
-        for line in said.splitlines():
-            document, query, extended = json.loads(line)[:3]
-            with self.subTest(query=query, document=document, extended=extended):
-                expected = told(jp.find, query, document, extended)
-                self.assertEqual(told(by_kept_query, query, document, extended), expected)
-                self.assertEqual(told(by_kept_document, query, document, extended), expected)
-                if isinstance(expected, list):
-                    self.assert_again(jp.compile(query, extended), document, expected)
+        for row in map(json.loads, said.splitlines()[1:]):
+            asked = row["query"], row["document"], row["profile"] == "Extended"
+            with self.subTest(row=row):
+                wanted = told(jp.find, *asked)
+                self.assertEqual(told(by_kept_query, *asked), wanted)
+                self.assertEqual(told(by_kept_document, *asked), wanted)
+                if "paths" in wanted:
+                    self.assert_again(jp.compile(row["query"], asked[2]), row["document"], wanted)
                     count += 1
         self.assertGreater(count, 1000)
 
-    def assert_again(self, query, document, expected):
+    def assert_again(self, query, document, wanted):
         """What a kept query answers does not go by what it was asked before."""
         for other in ("[]", '{"a":[1,{"b":"é"}],"b":{"a":2}}', "[1,", "[0.5]"):
             told(query.find, other)
-            self.assertEqual(told(query.find, document), expected)
+            self.assertEqual(told(query.find, document), wanted)
         first = query.find_one(document)
-        self.assertEqual([] if first is None else [(first.path, first.text)], expected[:1])
-        self.assertEqual(query.exists(document), expected != [])
-        self.assertEqual(query.paths(document), [path for path, _ in expected])
-        self.assertEqual(query.values(document), [json.loads(text) for _, text in expected])
+        nodes = list(zip(wanted["paths"], wanted["values"]))
+        self.assertEqual([] if first is None else [(first.path, first.text)], nodes[:1])
+        self.assertEqual(query.exists(document), nodes != [])
+        self.assertEqual(query.paths(document), wanted["paths"])
+        self.assertEqual(query.values(document), [json.loads(text) for text in wanted["values"]])
 
 
 if __name__ == "__main__":

@@ -46,7 +46,11 @@ pub struct DocumentError {
     column: usize,
     reason: String,
     sentence: String,
+    suggestion: Option<&'static str>,
 }
+
+const BY_LINES: &str =
+    "Where each line is a document (JSON Lines), ask one after another: `for line in file.lines()`.";
 
 impl Error {
     /// The error of a report whose status is that of no answer, over no document.
@@ -125,6 +129,7 @@ impl DocumentError {
             line,
             column,
         } = place;
+        let is_of_lines = reason == "AfterValue" && is_a_line(&document[..offset]);
         DocumentError {
             kind: DocumentKind::of(report.kind).expect("a kind that jp.h names"),
             path: Some(path).filter(|path| !path.is_empty()),
@@ -133,6 +138,7 @@ impl DocumentError {
             column,
             reason,
             sentence: raw::explain_document(document, document_part::DOCUMENT_SENTENCE).1,
+            suggestion: is_of_lines.then_some(BY_LINES),
         }
     }
 
@@ -161,6 +167,11 @@ impl DocumentError {
     /// Why it is refused, told to whoever wrote it. The wording may change. Empty where the line is 0.
     pub fn sentence(&self) -> &str {
         &self.sentence
+    }
+
+    /// How a text is asked that looks like JSON Lines, where each line is a document.
+    pub fn suggestion(&self) -> Option<&str> {
+        self.suggestion
     }
 
     /// What is wrong with it.
@@ -220,8 +231,18 @@ impl fmt::Display for DocumentError {
                 self.line, self.column, self.sentence
             )?;
         }
-        Ok(())
+        match self.suggestion {
+            Some(suggestion) => write!(f, " {suggestion}"),
+            None => Ok(()),
+        }
     }
+}
+
+/// Whether all that stands before what is wrong is a value on one line, and the end of that line.
+fn is_a_line(before: &[u8]) -> bool {
+    let before = String::from_utf8_lossy(before);
+    let value = before.trim_end();
+    before[value.len()..].contains('\n') && !value.trim_start().contains('\n')
 }
 
 impl std::error::Error for Error {}

@@ -67,6 +67,11 @@ impl OwnedNode {
         &self.line[self.tab + 1..]
     }
 
+    /// The JSON Pointer (RFC 6901) to it.
+    pub fn pointer(&self) -> String {
+        self.as_node().pointer()
+    }
+
     /// The node, with these texts.
     pub fn as_node(&self) -> Node<'_> {
         Node::new(self.path(), self.value())

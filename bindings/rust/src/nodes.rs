@@ -1,5 +1,6 @@
 //! The nodes that a query selects.
 
+use crate::raw;
 use std::fmt;
 use std::iter::FusedIterator;
 
@@ -77,6 +78,19 @@ impl<'n> Node<'n> {
     /// The value, as a compact JSON text with the members of objects sorted by name.
     pub fn value(&self) -> &'n str {
         self.value
+    }
+
+    /// The JSON Pointer (RFC 6901) to it.
+    ///
+    /// ```
+    /// use jsonpath_jp::Query;
+    ///
+    /// let nodes = Query::parse("$..b")?.find(br#"{"a/b":[{"b":1}]}"#)?;
+    /// assert_eq!(nodes.only().map(|node| node.pointer()).as_deref(), Some("/a~1b/0/b"));
+    /// # Ok::<(), jsonpath_jp::Error>(())
+    /// ```
+    pub fn pointer(&self) -> String {
+        raw::pointer(self.path)
     }
 }
 

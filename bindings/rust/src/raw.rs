@@ -125,6 +125,7 @@ extern "C" {
         cursor: *mut Cursor, query: *mut Handle, document: *mut Handle,
         limit: u64, lines: *mut Text, report: *mut Report,
     ) -> u32;
+    fn jp_pointer(path: *const Text, out: *mut u8, out_length: usize) -> usize;
     fn jp_clear(handle: *mut Handle);
 }
 
@@ -132,6 +133,20 @@ extern "C" {
 pub(crate) fn version() -> u32 {
     // SAFETY: the call takes nothing.
     unsafe { jp_version() }
+}
+
+/// The JSON Pointer to the node of a normalized path.
+pub(crate) fn pointer(path: &str) -> String {
+    let text = Text {
+        start: path.as_ptr(),
+        length: path.len(),
+    };
+    // No pointer is as long.
+    let mut out = vec![0; 2 * path.len()];
+    // SAFETY: the path is borrowed for the call, and the buffer has as many bytes as is said.
+    let length = unsafe { jp_pointer(&text, out.as_mut_ptr(), out.len()) };
+    out.truncate(length);
+    String::from_utf8(out).expect("UTF-8, as the path is")
 }
 
 /// What `jp_eval_many` writes; the questions get their reports.

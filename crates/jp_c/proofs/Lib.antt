@@ -5,3 +5,4 @@ mod Explaining
 mod Outcomes
 mod Placed
 mod Questions
+mod QueriesRead

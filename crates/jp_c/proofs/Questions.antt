@@ -13,15 +13,15 @@ questions-left olds news i new rest =
     drop-set-lt (i + 1) news i new less
     ∙ sym (drop-drop 1 i news) ∙ ap (drop 1) rest ∙ drop-drop 1 i olds
 
-within : (olds news : List Question) (i : ℕ)
+pub within-both : (olds news : List Question) (i : ℕ)
     → drop i news ≡ drop i olds → i < length news → i < length olds
-within olds news i rest h =
+within-both olds news i rest h =
     let same : length news - i ≡ length olds - i =
     sym (length-drop i news) ∙ ap length rest ∙ length-drop i olds
     in
     omega (arith, same, h)
 
-same_item : (olds news : List Question) (i : ℕ) (d : Question)
+pub same_item : (olds news : List Question) (i : ℕ) (d : Question)
     → drop i news ≡ drop i olds → get_or olds i d ≡ get_or news i d
 same_item olds news i d rest =
     let zero : i + 0 ≡ i = omega arith in
@@ -38,7 +38,7 @@ pub question-answered : (IsOutcome : List ℕ → outcome.Outcome → ℕ → Ty
     (texts ++ text)
 question-answered IsOutcome bytes olds news texts text i d new before rest h one =
     let old = get_or news i d in
-    let asked = take_more olds i d (within olds news i rest h)
+    let asked = take_more olds i d (within-both olds news i rest h)
     ∙ ap (λ q. take i olds ++ q ∷ []) (same_item olds news i d rest)
     in
     subst (λ os. AnswersEach IsOutcome bytes os (take (i + 1) (set news i new)) (texts ++ text))

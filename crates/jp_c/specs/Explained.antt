@@ -4,7 +4,6 @@ use Rattle.std.specs.Str.{chars, IsUtf8}
 use Rattle.jp_check.specs.declared.profile.Profile.{Profile}
 use Rattle.jp_command.specs.Explained.{ExplainsRefusal}
 use Rattle.jp_explain.specs.Explanation.{explanation_text}
-use Rattle.jp_explain.specs.Sentences.{sentence_of}
 use Rattle.jp_explain.specs.declared.explanation.Explanation.{Explanation}
 use Rattle.jp_query.specs.declared.refusal.Refusal.{Refusal}
 use Rattle.jp_tree.specs.Tree.{QueryTree}
@@ -21,7 +20,7 @@ suggested (Some query) = string_bytes query
 -- the text is that part of the explanation
 abbrev pub IsPart : Part → Explanation → List ℕ → Type 0
 IsPart Whole e text = chars text ≡ explanation_text e
-IsPart Sentence e text = text ≡ sentence_of e.reason
+IsPart Sentence e text = text ≡ e.sentence.now
 IsPart Suggestion e text = text ≡ suggested e.suggestion
 
 -- the bytes are a text (RFC 3629) that in the profile is refused so for what it is, and what is told is

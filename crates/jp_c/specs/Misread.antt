@@ -4,7 +4,6 @@ use Rattle.jp_document.specs.Document.{IsDocument}
 use Rattle.jp_document.specs.Value.{Value}
 use Rattle.jp_json.specs.Misreading.{IsMisreading}
 use Rattle.jp_json.specs.Names.{name_of}
-use Rattle.jp_json.specs.Sentences.{sentence_of}
 use Rattle.jp_json.specs.Told.{misreading_text}
 use Rattle.jp_json.specs.declared.misreading.Misreading.{Misreading}
 use Rattle.jp_c.specs.declared.misread.DocumentPart.{DocumentPart}
@@ -26,7 +25,7 @@ place_of_misreading m = record { offset = m.offset; line = m.line; column = m.co
 -- the text of that part: the line with its end, the sentence, or the reason's name
 abbrev pub part_text : DocumentPart → Misreading → List ℕ
 part_text Line m = misreading_text m ++ codes "\n"
-part_text Sentence m = sentence_of m.reason
+part_text Sentence m = m.sentence.now
 part_text Reason m = name_of m.reason
 
 -- the bytes are misread so, and what is told is that part of the misreading, and its place

@@ -5,13 +5,16 @@ ghost use Rattle.jp_command.specs.Lines.{output_of};
 ghost use Rattle.std.specs.Str.{IsUtf8};
 ghost use Rattle.jp_document.specs.Document.{IsDocument};
 ghost use Rattle.jp_evaluate.specs.Nodelist.{nodelist};
+ghost use Rattle.jp_evaluate.specs.Plan.{HoldsPortion, IsReadToAnswer};
 ghost use Rattle.jp_flat.specs.FlatValue.{document_in, lent_flat};
+ghost use Rattle.jp_held.specs.declared.portion.Excerpt.TheVariants.{Document};
 ghost use Rattle.jp_limit.specs.OutputLimit.{StaysWithin};
 ghost use Rattle.jp_query.specs.declared.refusal.RefusalKind.TheVariants.{NoMemory};
 ghost use Rattle.jp_tree.specs.Views.{query_of};
 ghost use Rattle.jp_c.specs.Asked.{IsAnswer, IsAcceptedInBytes, IsCanonOf, IsNoAnswer, IsNoText};
 ghost use Rattle.jp_c.specs.Asked.{IsNoDocument, IsQueryFault, RefusesBytes};
 ghost use Rattle.jp_c.specs.Limit.{output_within};
+ghost use Rattle.jp_c.specs.Private.Subjects.{IsReadAs};
 ghost use Rattle.jp_c.specs.Private.Spending.{Spends};
 ghost use Rattle.jsonpath.specs.Find.{IsGivenUp};
 ghost use Rattle.jsonpath.specs.Size.{Fits};
@@ -23,7 +26,8 @@ use crate::memory::Memory;
 use jp_canon::canon;
 use jp_check::{Checked, Profile, read_query};
 use jp_command::Form;
-use jp_flat::{Flat, FlatValue};
+use jp_evaluate::Plan;
+use jp_flat::{Flat, FlatValue, Room};
 use jp_held::read_flat;
 use jp_query::{Refusal, RefusalKind};
 use jp_select::Steps;
@@ -54,7 +58,7 @@ pub(crate) fn asked(alloc: Global, query: &[u8], profile: Profile) -> Result<Che
 }
 
 /// The query that these bytes are in a profile, or how it is refused.
-fn read_bytes(alloc: Global, query: &[u8], profile: Profile) -> Result<Checked, Refusal>
+pub(crate) fn read_bytes(alloc: Global, query: &[u8], profile: Profile) -> Result<Checked, Refusal>
     ensures asked { IfOk result (λ c. IsAcceptedInBytes profile query.now (query_of c.query)) }
     ensures refused { IfErr result
         (λ r. (r.kind ≡ NoMemory) ⊎ RefusesBytes profile query.now r) }
@@ -80,6 +84,23 @@ pub(crate) fn read_document(alloc: Global, bytes: &[u8]) -> Result<Flat<'_>, Fin
 {
     check_size(bytes)?;
     Ok(read_flat(alloc, bytes)?)
+}
+
+/// The document that these bytes are, of which what the plan does not ask for may be left out.
+pub(crate) fn read_for<'t>(
+    alloc: Global,
+    bytes: &'t [u8],
+    plan: &Plan,
+) -> Result<Flat<'t>, FindFault>
+    ensures document { IfOk result
+        (λ flat. HoldsPortion plan.now.portion bytes.now flat × Fits bytes.now) }
+    ensures fault { IfErr result (IsNoDocument bytes.now) }
+{
+    check_size(bytes)?;
+    match plan.read_document(alloc, Room::new(alloc), bytes) {
+        Ok(flat) => Ok(flat),
+        Err((_, fault)) => Err(FindFault::from(fault)),
+    }
 }
 
 /// The lines, in that form, of the nodes that a query selects in a document that was read.
@@ -130,11 +151,13 @@ pub(crate) fn answer(
     Ok(memory.text)
 }
 
-/// What `answer` answers, where the document was read before. It is read again only where memory
-/// ran out, and its length is looked at again where it is too large.
+/// What `answer` answers, where the query and so much of the document as it selects from were read before.
+/// Both are read again only where memory ran out for the document, and its length is looked at again where
+/// it is too large.
 pub(crate) fn answer_from(
     alloc: Global,
     query: &[u8],
+    asked: &Result<Checked, Refusal>,
     read: &Result<Flat<'_>, FindFault>,
     document: &[u8],
     form: Form,
@@ -142,8 +165,9 @@ pub(crate) fn answer_from(
     limit: Limit,
     steps: &mut Steps,
 ) -> Result<String, FindFault>
-    requires document { IfOk read.now
-        (λ flat. IsDocument document.now (document_in flat) × Fits document.now) }
+    requires asked { IsReadAs profile query.now asked.now }
+    requires document { IfOk asked.now (λ c. IfOk read.now (λ flat.
+        IsReadToAnswer (query_of c.query) document.now (Document flat) × Fits document.now)) }
     requires fault { IfErr read.now (IsNoDocument document.now) }
     ensures answer { IfOk result (λ text.
         IsAnswer (output_within limit) profile form query.now document.now (string_bytes text)) }
@@ -151,15 +175,13 @@ pub(crate) fn answer_from(
         (IsNoAnswer (output_within limit) profile form query.now document.now) }
     ensures spends { Spends result steps.old steps.new }
 {
+    let checked = match asked {
+        Ok(checked) => checked,
+        Err(refusal) => return Err(FindFault::from(*refusal)),
+    };
     match read {
-        Ok(flat) => {
-            let query = asked(alloc, query, profile)?;
-            lines(alloc, form, flat.value(), &query, limit, steps)
-        }
-        Err(FindFault::Document(fault)) => {
-            asked(alloc, query, profile)?;
-            Err(FindFault::Document(fault.copy(alloc)?))
-        }
+        Ok(flat) => lines(alloc, form, flat.value(), checked, limit, steps),
+        Err(FindFault::Document(fault)) => Err(FindFault::Document(fault.copy(alloc)?)),
         Err(_) => answer(alloc, query, document, form, profile, limit, steps),
     }
 }

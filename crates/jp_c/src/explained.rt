@@ -122,7 +122,7 @@ fn told(alloc: Global, explanation: &Explanation, part: Part) -> Result<String, 
 {
     match part {
         Part::Whole => explanation_text(alloc, explanation),
-        Part::Sentence => String::from_str(alloc, explanation.reason.sentence()),
+        Part::Sentence => String::from_str(alloc, explanation.sentence),
         Part::Suggestion => suggested(alloc, &explanation.suggestion),
     }
 }

@@ -1,22 +1,33 @@
-//! Many queries over one document, which is read once.
+//! Many queries over one document, of which so much is read as they ask for together.
 
-ghost use Rattle.std.specs.Prelude.{◌≡◌, ◌≢◌, ◌⊎◌, ◌++◌, ℕ, List, drop, string_bytes, take};
+ghost use Rattle.std.specs.Prelude.{◌≡◌, ◌≢◌, ◌⊎◌, ◌++◌, ℕ, List, IfSome, drop, string_bytes, take};
+ghost use Rattle.jp_evaluate.specs.Plan.{Serves};
+ghost use Rattle.jp_tree.specs.Tree.{QueryTree};
 ghost use Rattle.jsonpath.specs.declared.fault.FindFault.TheVariants.{NoMemory};
 ghost use Rattle.jp_c.specs.Calls.{IsEvalOutcome};
 ghost use Rattle.jp_c.specs.Limit.{Within};
-ghost use Rattle.jp_c.specs.Many.{AnswersAll, AnswersEach, AnswersOne};
+ghost use Rattle.jp_c.specs.Many.{AnswersAll, AnswersEach, AnswersOne, query_asked};
 ghost use Rattle.jp_c.specs.Outcome.{told_text};
-ghost use Rattle.jp_c.specs.Private.Subjects.{IsAnswered, IsSound};
+ghost use Rattle.jp_c.specs.Private.Subjects.{AreRead, IsAnswered, IsReadToServe, IsSound};
 ghost use Rattle.jp_c.specs.declared.outcome.Outcome.TheVariants.{Fault, Usage};
 
-use crate::asked::{answer_from, read_document};
+use crate::asked::{answer_from, read_bytes, read_for};
 use crate::limit::{Limit, steps_within};
 use crate::numbers::{form, profile};
 use crate::outcome::{Answered, Outcome, Report, fill};
 use crate::refused::place_of;
+use jp_check::Checked;
+use jp_evaluate::Plan;
 use jp_flat::Flat;
+use jp_query::{Refusal, RefusalKind};
 use jsonpath::FindFault;
 use std::alloc::Global;
+
+/// A query that is not read, for want of memory.
+const NOT_READ: Refusal = Refusal {
+    kind: RefusalKind::NoMemory,
+    place: 0,
+};
 
 /// One of many queries: where it stands, and what is answered.
 #[repr(C)]
@@ -30,9 +41,9 @@ pub struct Question {
     pub report: Report,
 }
 
-/// Answers each question in turn as `jp_eval` does, over one document, which is read once where it
-/// is accepted: the report goes into the question, and each has the whole limit. A question's query is the bytes of `queries`
-/// from its start on, as many as it says, or as there are. The buffer gets the texts of all
+/// Answers each question in turn as `jp_eval` does, over one document, of which what all of the accepted
+/// queries ask for is read once: the report goes into the question, and each has the whole limit. A
+/// question's query is the bytes of `queries` from its start on, as many as it says, or as there are. The buffer gets the texts of all
 /// questions one after another where it has room for all of them, and is else left as it was.
 /// Answers how many bytes these texts have.
 #[unsafe(no_mangle)]
@@ -49,10 +60,56 @@ pub extern "C" fn jp_eval_many(
     ensures { AnswersAll (λ query. Within limit.now (IsEvalOutcome form profile query document.now))
         queries.now questions.old questions.new out.old out.new result }
 {
-    let subject = Subject::read(alloc, document, form, profile, *limit);
-    let texts = answer_each(&subject, queries, questions);
+    let mut plan = Plan::of_none(alloc);
+    let reads = read_each(alloc, queries, questions, profile, &mut plan);
+    let subject = Subject::read(alloc, document, &plan, form, profile, *limit);
+    let texts = answer_each(&subject, queries, &reads, questions);
     fill(texts.as_bytes(), out);
     texts.len()
+}
+
+/// Reads the query of each question in the profile of this number, as many as there is memory for, and has
+/// the plan serve each that is accepted.
+fn read_each(
+    alloc: Global,
+    queries: &[u8],
+    questions: &[Question],
+    profile: u32,
+    plan: &mut Plan,
+) -> Vec<Result<Checked, Refusal>>
+    ensures { AreRead profile plan.new.portion queries.now questions.now result.items }
+{
+    let mut reads = Vec::new(alloc);
+    for question in questions {
+        let query = part(queries, question.start, question.size);
+        let read = read_one(alloc, query, profile, plan);
+        match reads.push(read) {
+            Ok(()) => {}
+            Err(_) => return reads,
+        }
+    }
+    reads
+}
+
+/// Reads a query, and has the plan serve it with those that it serves. Where there is no profile of this
+/// number nothing is read.
+fn read_one(
+    alloc: Global,
+    query: &[u8],
+    profile_number: u32,
+    plan: &mut Plan,
+) -> Result<Checked, Refusal>
+    ensures read { IsReadToServe profile_number plan.new.portion query.now result }
+    ensures others { (q : QueryTree) → Serves q plan.old.portion → Serves q plan.new.portion }
+{
+    let Some(profile) = profile(profile_number) else {
+        return Err(NOT_READ);
+    };
+    let checked = read_bytes(alloc, query, profile)?;
+    match plan.add(&checked) {
+        Ok(()) => Ok(checked),
+        Err(_) => Err(NOT_READ),
+    }
 }
 
 /// What all of the queries are asked of, and how.
@@ -60,6 +117,8 @@ pub extern "C" fn jp_eval_many(
 struct Subject<'d> {
     alloc: Global,
     document: &'d [u8],
+    /// What is read of the document.
+    plan: &'d Plan,
     read: Result<Flat<'d>, FindFault>,
     /// Where the document goes wrong, if that was found.
     place: Option<usize>,
@@ -69,14 +128,22 @@ struct Subject<'d> {
 }
 
 impl<'d> Subject<'d> {
-    fn read(alloc: Global, document: &'d [u8], form: u32, profile: u32, limit: Limit) -> Subject<'d>
+    fn read(
+        alloc: Global,
+        document: &'d [u8],
+        plan: &'d Plan,
+        form: u32,
+        profile: u32,
+        limit: Limit,
+    ) -> Subject<'d>
+        ensures plan { result.plan.now ≡ plan.now }
         ensures document { result.document.now ≡ document.now }
         ensures form { result.form ≡ form }
         ensures profile { result.profile ≡ profile }
         ensures limit { result.limit ≡ limit }
         ensures sound { IsSound result }
     {
-        let read = read_document(alloc, document);
+        let read = read_for(alloc, document, plan);
         let place = match &read {
             Ok(_) => None,
             Err(fault) => place_of(alloc, document, fault),
@@ -84,6 +151,7 @@ impl<'d> Subject<'d> {
         Subject {
             alloc,
             document,
+            plan,
             read,
             place,
             form,
@@ -92,9 +160,11 @@ impl<'d> Subject<'d> {
         }
     }
 
-    /// What a query answers, with the whole limit.
-    fn outcome(&self, query: &[u8]) -> Answered
-        requires { IsSound self.now }
+    /// What a query that was read answers, with the whole limit.
+    fn outcome(&self, query: &[u8], read: Option<&Result<Checked, Refusal>>) -> Answered
+        requires sound { IsSound self.now }
+        requires read { IfSome read
+            (λ r. IsReadToServe self.now.profile self.now.plan.now.portion query.now r.now) }
         ensures { Within self.now.limit
             (IsEvalOutcome self.now.form self.now.profile query.now self.now.document.now)
             result.outcome result.steps }
@@ -105,10 +175,14 @@ impl<'d> Subject<'d> {
         let Some(profile) = profile(self.profile) else {
             return Answered::at_once(Outcome::Usage);
         };
+        let Some(asked) = read else {
+            return Answered::at_once(Outcome::Fault(FindFault::NoMemory));
+        };
         let mut steps = steps_within(self.limit.steps);
         let answer = answer_from(
             self.alloc,
             query,
+            asked,
             &self.read,
             self.document,
             form,
@@ -121,28 +195,45 @@ impl<'d> Subject<'d> {
     }
 }
 
-/// Answers all questions, and gives their texts one after another.
-fn answer_each(subject: &Subject<'_>, queries: &[u8], questions: &mut [Question]) -> String
-    requires { IsSound subject.now }
+/// Answers all questions, whose queries were read, and gives their texts one after another.
+fn answer_each(
+    subject: &Subject<'_>,
+    queries: &[u8],
+    reads: &[Result<Checked, Refusal>],
+    questions: &mut [Question],
+) -> String
+    requires sound { IsSound subject.now }
+    requires read { AreRead subject.now.profile subject.now.plan.now.portion queries.now questions.old
+        reads.now }
     ensures { AnswersEach (IsAnswered subject.now) queries.now questions.old questions.new
         (string_bytes result) }
 {
     let mut texts = String::new(subject.alloc);
+    let mut index: usize = 0;
     for question in questions.iter_mut() {
-        answer_one(subject, queries, question, &mut texts);
+        answer_one(subject, queries, reads.get(index), question, &mut texts);
+        index += 1;
     }
     texts
 }
 
 /// Answers one question, and puts its text behind the others.
-fn answer_one(subject: &Subject<'_>, queries: &[u8], question: &mut Question, texts: &mut String)
-    requires { IsSound subject.now }
+fn answer_one(
+    subject: &Subject<'_>,
+    queries: &[u8],
+    read: Option<&Result<Checked, Refusal>>,
+    question: &mut Question,
+    texts: &mut String,
+)
+    requires sound { IsSound subject.now }
+    requires read { IfSome read (λ r. IsReadToServe subject.now.profile subject.now.plan.now.portion
+        (query_asked queries.now question.old) r.now) }
     ensures { (text : List ℕ)
         × AnswersOne (IsAnswered subject.now) queries.now question.old question.new text
         × (string_bytes texts.new ≡ string_bytes texts.old ++ text) }
 {
     let query = part(queries, question.start, question.size);
-    let answered = told_behind(subject.outcome(query), texts);
+    let answered = told_behind(subject.outcome(query, read), texts);
     question.report = answered.report();
 }
 

@@ -142,7 +142,7 @@ fn part_text(
 {
     match part {
         DocumentPart::Line => format!(in alloc; "{misreading}\n"),
-        DocumentPart::Sentence => String::from_str(alloc, misreading.reason.sentence()),
+        DocumentPart::Sentence => String::from_str(alloc, misreading.sentence),
         DocumentPart::Reason => String::from_str(alloc, misreading.reason.name()),
     }
 }

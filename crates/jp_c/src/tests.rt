@@ -515,6 +515,35 @@ fn answers_many_in_turn(rt: HostRuntime) {
 }
 
 #[test]
+fn answers_many_that_ask_for_members_of_their_own(rt: HostRuntime) {
+    let reports = [(0, 2), (1, 0), (0, 6), (0, 0), (0, 2)];
+    let mut questions = [
+        asked(0, 3),
+        asked(3, 5),
+        asked(8, 8),
+        asked(16, 3),
+        asked(19, 8),
+    ];
+    let mut out = [b'#'; 11];
+    let size = jp_eval_many(
+        rt.alloc(),
+        b"$.d$[01]$.b[*].c$.e$['a'].b",
+        &mut questions,
+        b"{\"a\":{\"b\":7,\"d\":8},\"b\":[{\"c\":10},{\"c\":\"\"}],\"c\":0,\"d\":9}",
+        0,
+        0,
+        &NONE,
+        &mut out,
+    );
+    assert_eq!(rt; size, 10);
+    assert_eq!(rt; out.as_slice(), b"9\n10\n\"\"\n7\n#".as_slice());
+    for (question, (status, length)) in questions.iter().zip(reports) {
+        let report = question.report;
+        assert_eq!(rt; (report.status, report.length), (status, length));
+    }
+}
+
+#[test]
 fn answers_many_over_no_document(rt: HostRuntime) {
     let mut questions = [asked(0, 1), asked(0, 0)];
     let mut out = [b'#'; 5];

@@ -10,18 +10,20 @@ ghost use Rattle.jp_check.specs.First.{IsFirstFault};
 ghost use Rattle.jp_check.specs.Refused.{IsRefused};
 
 use crate::inspection::first_fault;
+use crate::needs::{Needs, needs_of};
 use crate::profile::Profile;
 use jp_query::{Parsed, Refusal, RefusalKind, parse};
 use jp_tree::Query;
 use std::alloc::Global;
 use std::marker::Model;
 
-/// The tree of a query that is accepted (RFC 9535 sections 2.1, 2.3.5.1 and 2.4.3), and the profile
-/// in which it is.
+/// The tree of a query that is accepted (RFC 9535 sections 2.1, 2.3.5.1 and 2.4.3), the profile in
+/// which it is, and what its filters need.
 #[derive(Debug, Drop)]
 pub struct Checked {
     query: Query,
     profile: Profile,
+    needs: Needs,
 }
 
 impl Model for Checked {
@@ -55,6 +57,11 @@ impl Checked {
     {
         self.profile
     }
+
+    /// What its filters need of an evaluation.
+    pub fn needs(&self) -> Needs {
+        self.needs
+    }
 }
 
 /// Checks the numbers and the types of a query in a profile (RFC 9535 sections 2.1, 2.3.5.1 and
@@ -79,10 +86,15 @@ pub fn check(parsed: Parsed, profile: Profile) -> Result<Checked, Refusal>
 {
     match first_fault(&parsed, profile) {
         Some(fault) => Err(fault),
-        None => Ok(Checked {
-            query: parsed.into_query(),
-            profile,
-        }),
+        None => {
+            let query = parsed.into_query();
+            let needs = needs_of(&query);
+            Ok(Checked {
+                query,
+                profile,
+                needs,
+            })
+        }
     }
 }
 

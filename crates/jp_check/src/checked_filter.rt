@@ -7,18 +7,20 @@ ghost use Rattle.jp_check.specs.Accepted.{IsFilterAccepted, IsFilterAcceptedAs, 
 ghost use Rattle.jp_check.specs.Refused.{IsFilterRefused};
 
 use crate::inspection::first_filter_fault;
+use crate::needs::{Needs, needs_of_filter};
 use crate::profile::Profile;
 use jp_query::{Refusal, RefusalKind, parse_filter};
 use jp_tree::Expr;
 use std::alloc::Global;
 use std::marker::Model;
 
-/// The tree of a filter's expression that is accepted (RFC 9535 sections 2.1, 2.3.5.1 and 2.4.3), and
-/// the profile in which it is.
+/// The tree of a filter's expression that is accepted (RFC 9535 sections 2.1, 2.3.5.1 and 2.4.3), the
+/// profile in which it is, and what it needs.
 #[derive(Debug, Drop)]
 pub struct CheckedFilter {
     expr: Box<Expr>,
     profile: Profile,
+    needs: Needs,
 }
 
 impl Model for CheckedFilter {
@@ -52,6 +54,11 @@ impl CheckedFilter {
     {
         self.profile
     }
+
+    /// What it needs of an evaluation.
+    pub fn needs(&self) -> Needs {
+        self.needs
+    }
 }
 
 /// Reads the expression of a filter alone: parses the text, then checks what it spells in the profile,
@@ -69,9 +76,14 @@ pub fn read_filter(alloc: Global, text: &str, profile: Profile) -> Result<Checke
     let parsed = parse_filter(alloc, text)?;
     match first_filter_fault(&parsed, profile) {
         Some(fault) => Err(fault),
-        None => Ok(CheckedFilter {
-            expr: parsed.into_expr(),
-            profile,
-        }),
+        None => {
+            let expr = parsed.into_expr();
+            let needs = needs_of_filter(&expr);
+            Ok(CheckedFilter {
+                expr,
+                profile,
+                needs,
+            })
+        }
     }
 }

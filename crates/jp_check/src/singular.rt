@@ -20,7 +20,7 @@ pub(crate) fn is_singular(query: &Query) -> bool
 
 /// Whether it is a child segment with exactly one selector, a name or an index.
 #[tactic(auto, using(crate::proofs::Segments::several_not_single))]
-fn is_single_segment(segment: &Segment) -> bool
+pub(crate) fn is_single_segment(segment: &Segment) -> bool
     ensures { result ≡ is_single_segment (segment_of segment.now) }
 {
     match segment.selectors.as_slice() {

@@ -3,8 +3,9 @@ use Rattle.std.proofs.Common.{◌≡◌, ℕ, List, [], ◌++◌, Option, Some, 
 use Rattle.std.proofs.Common.{inr, subst, sym, refl, ◌∙◌, ap, append_assoc}
 use Rattle.std.proofs.lemmas.List.{append-nil}
 use Rattle.std.specs.Result.{IsErrAnd}
-use Rattle.jp_command.specs.Writes.{GoByCalls, GoesAs, GoesInPart, GoesToAFailure, WritesByCalls}
+use Rattle.jp_command.specs.Writes.{GoByCalls, GoesInPart, GoesToAFailure, WritesByCalls}
 use Rattle.jp_command.specs.Writes.{none, one_more}
+use Rattle.jp_command.specs.Written.{GoesAs}
 use Rattle.jp_command.specs.declared.fault.Fault.{Fault}
 use Rattle.jp_command.specs.declared.fault.Fault.TheVariants.{Query, Document, DocumentTooLarge}
 use Rattle.jp_command.specs.declared.fault.Fault.TheVariants.{NoMemory, Read, Write}

@@ -7,11 +7,11 @@ use Rattle.jp_document.specs.declared.fault.DocumentFault.{DocumentFault}
 use Rattle.jp_document.specs.declared.fault.DocumentFault.TheVariants as document
 use Rattle.jp_tree.specs.Tree.{QueryTree}
 use Rattle.jp_command.specs.Input.{ReadsAll}
-use Rattle.jp_command.specs.Output.{StopsWriting}
 use Rattle.jp_command.specs.Private.Faults.{fault_of_document}
 use Rattle.jp_command.specs.Private.Kept.{KeepsRead}
 use Rattle.jp_command.specs.QueryLine.{RunsQueryLine}
 use Rattle.jp_command.specs.Run.{IsAsked}
+use Rattle.jp_command.specs.Written.{StopsWriting}
 use Rattle.jp_command.specs.declared.fault.Fault.{Fault}
 use Rattle.jp_command.specs.declared.fault.Fault.TheVariants.{Query, Document, DocumentTooLarge}
 use Rattle.jp_command.specs.declared.fault.Fault.TheVariants.{NoMemory, Read, Write}

@@ -8,10 +8,12 @@ use Rattle.std.specs.Io.KnownBytes.{Appends}
 use Rattle.std.specs.List.{flat_map}
 use Rattle.std.specs.Result.{IsErrAnd}
 use Rattle.jp_document.specs.Node.{Node}
-use Rattle.jp_command.specs.Lines.{line_behind, text_in_line}
-use Rattle.jp_command.specs.Output.{AppendsPrefix, StopsWriting, WritesAll}
+use Rattle.jp_command.specs.Lead.{line_behind}
+use Rattle.jp_command.specs.Lines.{text_in_line}
+use Rattle.jp_command.specs.Output.{AppendsPrefix, WritesAll}
 use Rattle.jp_command.specs.Private.AsFound.{WritesGiven, WritesPart}
-use Rattle.jp_command.specs.Writes.{GoByCalls, GoesAs, GoesInPart, GoesToAFailure, none}
+use Rattle.jp_command.specs.Writes.{GoByCalls, GoesInPart, GoesToAFailure, none}
+use Rattle.jp_command.specs.Written.{GoesAs, StopsWriting}
 use Rattle.jp_command.specs.declared.fault.Fault.{Fault}
 use Rattle.jp_command.specs.declared.lines.Form.{Form}
 use Rattle.jp_command.specs.declared.fault.Fault.TheVariants.{NoMemory}

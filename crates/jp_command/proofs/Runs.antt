@@ -9,11 +9,12 @@ use Rattle.jp_document.specs.declared.fault.DocumentFault.{DocumentFault}
 use Rattle.jp_document.specs.declared.fault.DocumentFault.TheVariants as document
 use Rattle.jp_tree.specs.Tree.{QueryTree}
 use Rattle.jp_command.specs.Input.{ReadsAll}
-use Rattle.jp_command.specs.Output.{StopsWriting, WritesAll}
+use Rattle.jp_command.specs.Output.{WritesAll}
 use Rattle.jp_command.specs.Private.Faults.{fault_of_document}
-use Rattle.jp_command.specs.Private.Stops.{StopsReading}
 use Rattle.jp_command.specs.Run.{IsAsked, IsOutput, RefusesDocument}
 use Rattle.jp_command.specs.Run.{RunsEval, at_a_node, at_a_read, at_the_document}
+use Rattle.jp_command.specs.Stops.{StopsReading}
+use Rattle.jp_command.specs.Written.{StopsWriting}
 use Rattle.jp_command.specs.declared.fault.Fault.{Fault}
 use Rattle.jp_command.specs.declared.fault.Fault.TheVariants.{Query, Document, DocumentTooLarge}
 use Rattle.jp_command.specs.declared.fault.Fault.TheVariants.{NoMemory, Read, Write}

@@ -8,9 +8,9 @@ use Rattle.std.specs.Io.KnownBytes.{Appends, Keeps}
 use Rattle.std.specs.Result.{IsErrAnd}
 use Rattle.jp_command.specs.Input.{ReadsSome}
 use Rattle.jp_command.specs.Output.{AppendsPrefix}
-use Rattle.jp_command.specs.Private.Stops.{StopsReading}
 use Rattle.jp_command.specs.Reads.{ComeByReads}
 use Rattle.jp_command.specs.Reads as reads
+use Rattle.jp_command.specs.Stops.{StopsReading}
 use Rattle.jp_command.specs.Writes.{GoByCalls, none}
 use Rattle.jp_command.specs.declared.fault.Fault.{Fault}
 use Rattle.jp_command.specs.declared.fault.Fault.TheVariants.{NoMemory}

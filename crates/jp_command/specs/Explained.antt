@@ -1,29 +1,38 @@
--- What explains a refused query: where it is refused and why, and what to try instead. `Line` cites it.
-use Rattle.std.specs.Prelude.{◌≡◌, ◌≢◌, ℕ, List, ◌++◌, codes, IfSome, string_bytes}
+-- What explains a refused query, or the refused expression of a filter: where it is refused, a sentence, and
+-- what to try instead. `Line` cites it.
+use Rattle.std.specs.Prelude.{◌≡◌, ◌≢◌, ℕ, List, true, ◌++◌, codes, IfSome, string_bytes}
 use Rattle.std.specs.Str.{chars, encode_utf8_all}
 use Rattle.jp_check.specs.declared.profile.Profile.{Profile}
 use Rattle.jp_explain.specs.Explanation.{IsPlacedAt, explanation_text}
-use Rattle.jp_explain.specs.Place.{front_of, rest_of}
-use Rattle.jp_explain.specs.Reasons.{reason_of}
-use Rattle.jp_explain.specs.Sentences.{sentence_of}
-use Rattle.jp_explain.specs.Suggestion.{IsQuery}
+use Rattle.jp_reading.specs.Sentences.{is_sentence}
+use Rattle.jp_reading.specs.Texts.{Text}
+use Rattle.jp_explain.specs.Suggestion.{IsSuggested, IsSuggestedExpression}
 use Rattle.jp_explain.specs.declared.explanation.Explanation.{Explanation}
-use Rattle.jp_explain.specs.declared.reason.Reason.TheVariants as reason
 use Rattle.jp_query.specs.declared.refusal.Refusal.{Refusal}
 use Rattle.jp_query.specs.declared.refusal.RefusalKind.TheVariants as kind
 
--- the query's text in UTF-8, the profile in which it is read, and how it is refused
-module _ (profile : Profile) (query : List ℕ) (r : Refusal) where
-  -- the explanation is of the refusal's place, and for its reason, and what it suggests is accepted
-  pub record ExplainsRefusal (e : Explanation) : Type 0 where
-    pub placed : IsPlacedAt (chars query) r.place e
-    pub reason : e.reason
-        ≡ reason_of r.kind (front_of r.place (chars query)) (rest_of r.place (chars query))
-    pub suggestion : IfSome e.suggestion (λ text. IsQuery profile (chars (string_bytes text)))
+-- what may be suggested, the refused text in UTF-8, and how it is refused
+module _ (Suggested : Text → Type 0) (refused : List ℕ) (r : Refusal) where
+  -- the explanation is of the refusal's place, it has a sentence, and what it suggests may be
+  pub record ExplainsWith (e : Explanation) : Type 0 where
+    pub placed : IsPlacedAt (chars refused) r.place e
+    pub sentence : is_sentence e.sentence.now ≡ true
+    pub suggestion : IfSome e.suggestion (λ text. Suggested (chars (string_bytes text)))
 
-  -- its text in UTF-8; of a query that is too long, the sentence alone
-  pub data IsExplanation (text : List ℕ) : Type 0 where
-    whole : (e : Explanation) → r.kind ≢ kind.TextTooLong → ExplainsRefusal e
-        → text ≡ encode_utf8_all (explanation_text e) → IsExplanation text
-    sentence : r.kind ≡ kind.TextTooLong → text ≡ sentence_of reason.TextTooLong ++ codes "\n"
-        → IsExplanation text
+  -- its text in UTF-8; of a refused text that is too long, a sentence alone
+  pub data IsExplained (text : List ℕ) : Type 0 where
+    whole : (e : Explanation) → r.kind ≢ kind.TextTooLong → ExplainsWith e
+        → text ≡ encode_utf8_all (explanation_text e) → IsExplained text
+    sentence : (line : List ℕ) → r.kind ≡ kind.TextTooLong → is_sentence line ≡ true
+        → text ≡ line ++ codes "\n" → IsExplained text
+
+-- of a query, that is read in the profile: what is suggested is accepted as it is printed
+abbrev pub ExplainsRefusal : Profile → List ℕ → Refusal → Explanation → Type 0
+ExplainsRefusal profile = ExplainsWith (IsSuggested profile)
+
+abbrev pub IsExplanation : Profile → List ℕ → Refusal → List ℕ → Type 0
+IsExplanation profile = IsExplained (IsSuggested profile)
+
+-- of the expression of a filter: what is suggested is accepted as one
+abbrev pub IsExpressionExplanation : Profile → List ℕ → Refusal → List ℕ → Type 0
+IsExpressionExplanation profile = IsExplained (IsSuggestedExpression profile)

@@ -4,10 +4,13 @@ pub mod Device
 pub mod Buffered
 pub mod Reads
 pub mod Input
+pub mod Stops
 pub mod Output
 pub mod Writes
+pub mod Written
 pub mod CommandLine
 pub mod Lines
+pub mod Lead
 pub mod Run
 pub mod Selecting
 pub mod QueryLine
@@ -17,5 +20,6 @@ pub mod Explained
 pub mod Line
 pub mod Found
 pub mod Headline
+pub mod Hint
 pub mod Program
 pub mod Private

@@ -13,7 +13,8 @@ use Rattle.jp_query.specs.declared.refusal.Refusal.{Refusal}
 use Rattle.jp_command.specs.Canon.{RunsCanon, canon_line}
 use Rattle.jp_command.specs.Check.{RunsCheck, accepted_line}
 use Rattle.jp_command.specs.CommandLine.{asked}
-use Rattle.jp_command.specs.Explained.{IsExplanation}
+use Rattle.jp_command.specs.Explained.{IsExplanation, IsExpressionExplanation}
+use Rattle.jp_command.specs.Hint.{document_hint}
 use Rattle.jp_command.specs.QueryLine.{IsQueryLine}
 use Rattle.jp_command.specs.Run.{IsOutput, RefusesDocument, RunsEval}
 use Rattle.jp_command.specs.Output.{AppendsPrefix, AppendsSome}
@@ -46,23 +47,38 @@ fault_text Write = codes "write fault"
 abbrev pub fault_line : Fault → List ℕ
 fault_line f = fault_text f ++ codes "\n"
 
--- the line of a query that is refused with r, and behind it an explanation of that
-pub record IsExplainedLine (profile : Profile) (query : List ℕ) (r : Refusal) (text : List ℕ) : Type 0
-  where
-    pub explanation : List ℕ
-    pub explains : IsExplanation profile query r explanation
-    pub is : text ≡ fault_line (Query r) ++ explanation
+-- the line of words that are not UTF-8
+abbrev pub words_line : List ℕ
+words_line = codes "words refused: NotUtf8\n"
+
+-- the line of a query that is refused with r, and behind it such an explanation of that
+pub record IsLineBefore (Explanation : List ℕ → Type 0) (r : Refusal) (text : List ℕ) : Type 0 where
+  pub explanation : List ℕ
+  pub explains : Explanation explanation
+  pub is : text ≡ fault_line (Query r) ++ explanation
+
+abbrev pub IsExplainedLine : Profile → List ℕ → Refusal → List ℕ → Type 0
+IsExplainedLine profile query r = IsLineBefore (IsExplanation profile query r) r
+
+-- the same of the expression of a filter
+abbrev pub IsExpressionLine : Profile → List ℕ → Refusal → List ℕ → Type 0
+IsExpressionLine profile text r = IsLineBefore (IsExpressionExplanation profile text r) r
 
 -- a prefix of them is told
 abbrev pub TellsExplained : Profile → List ℕ → Refusal → Option (List ℕ) → Option (List ℕ) → Type 0
 TellsExplained profile query r old new =
     (text : List ℕ) × IsExplainedLine profile query r text × AppendsPrefix old new text
 
--- the line of that fault, and behind it how the bytes are misread, which a newline ends
+abbrev pub TellsExpression : Profile → List ℕ → Refusal → Option (List ℕ) → Option (List ℕ) → Type 0
+TellsExpression profile expression r old new =
+    (text : List ℕ) × IsExpressionLine profile expression r text × AppendsPrefix old new text
+
+-- the line of that fault, and behind it how the bytes are misread, and what other form they show, which a
+-- newline ends
 pub record IsMisreadLine (bytes : List ℕ) (f : Fault) (text : List ℕ) : Type 0 where
   pub m : Misreading
   pub misread : IsMisreading bytes m
-  pub is : text ≡ fault_line f ++ (misreading_text m ++ codes "\n")
+  pub is : text ≡ fault_line f ++ (misreading_text m ++ (document_hint m bytes ++ codes "\n"))
 
 -- a prefix of them is told
 abbrev pub TellsMisread : List ℕ → Fault → Option (List ℕ) → Option (List ℕ) → Type 0

@@ -24,10 +24,6 @@ text_in_line RawBoth n = path_of n.location ++ codes "\t" ++ raw_text n.value
 abbrev pub line_of : Form → Node → List ℕ
 line_of form n = text_in_line form n ++ codes "\n"
 
--- the same line behind a text
-abbrev pub line_behind : List ℕ → Form → Node → List ℕ
-line_behind lead form n = lead ++ line_of form n
-
 -- a line for each node
 abbrev pub lines_of : Form → List Node → List ℕ
 lines_of form ns = flat_map (line_of form) ns
@@ -35,7 +31,3 @@ lines_of form ns = flat_map (line_of form) ns
 -- the output of a query over a document: the lines of its nodelist, in order
 abbrev pub output_of : Form → QueryTree → Value → List ℕ
 output_of form q d = lines_of form (nodelist q d)
-
--- the same with a text before each line
-abbrev pub output_behind : List ℕ → Form → QueryTree → Value → List ℕ
-output_behind lead form q d = flat_map (line_behind lead form) (nodelist q d)

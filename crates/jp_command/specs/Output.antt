@@ -1,9 +1,7 @@
 -- What a run has written to its output: all of a text, or a prefix of one, and nothing else. `Run`,
 -- `QueryLine` and `Line` say with which answer each holds.
-use Rattle.std.specs.Prelude.{◌≡◌, ℕ, Bool, true, List, ◌++◌, Option}
+use Rattle.std.specs.Prelude.{◌≡◌, ℕ, Bool, List, ◌++◌, Option}
 use Rattle.std.specs.Io.KnownBytes.{Appends}
-use Rattle.jp_command.specs.declared.fault.Fault.{Fault}
-use Rattle.jp_command.specs.declared.fault.Fault.TheVariants.{NoMemory, Write}
 
 -- a writer took a prefix of the text
 pub record AppendsPrefix (old new : Option (List ℕ)) (text : List ℕ) : Type 0 where
@@ -34,10 +32,3 @@ module _ {W : Type 0} (contents : W → Option (List ℕ)) (has_failed : W → B
     pub output : List ℕ
     pub is : IsOutput output
     pub written : AppendsPrefix (contents o) (contents p) output
-
-  -- why the text was not written to its end; a prefix of it was
-  abbrev pub StopsWriting : W → W → List ℕ → Fault → Type 0
-  StopsWriting o p text NoMemory =
-      AppendsPrefix (contents o) (contents p) text × (has_failed p ≡ has_failed o)
-  StopsWriting o p text Write = AppendsPrefix (contents o) (contents p) text × (has_failed p ≡ true)
-  StopsWriting o p text _ = ⊥

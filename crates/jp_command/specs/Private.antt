@@ -1,5 +1,5 @@
--- What the contracts of private functions alone cite: what words ask for, lines written as nodes are found, the front of paths, what a line shows of a node, how runs
--- stop, and what they keep then.
+-- What the contracts of private functions alone cite: what words ask for, lines written as nodes are found, the front of paths, what a line shows of a node, and what
+-- runs keep where they stop.
 pub mod AsFound
 pub mod Asked
 pub mod Faults
@@ -7,4 +7,3 @@ pub mod Firsts
 pub mod Fronts
 pub mod Kept
 pub mod Shown
-pub mod Stops

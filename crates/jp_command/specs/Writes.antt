@@ -29,12 +29,6 @@ module _ {W : Type 0} (write_takes : W → Option (List ℕ) → W → Type 0) w
     pub calls : GoByCalls o between prefix
     pub last : write_takes between None p
 
-  -- how far the text went, by the answer
-  abbrev pub GoesAs : {X : Type 0} → W → W → List ℕ → Result X Fault → Type 0
-  GoesAs o p text (Ok x) = GoByCalls o p text
-  GoesAs o p text (Err Write) = GoesToAFailure o p text
-  GoesAs o p text (Err _) = GoesInPart o p text
-
   -- how far an output with this property went, by the answer; after other faults than `Write` there
   -- may have been no call
   abbrev pub WritesByCalls : {X : Type 0} → (List ℕ → Type 0) → W → W → Result X Fault → Type 0

@@ -4,10 +4,11 @@ ghost use Rattle.std.specs.Prelude.{◌⊎◌, IfErr, IfOk, OnOk};
 ghost use Rattle.jp_tree.specs.Views.{query_of};
 ghost use Rattle.jp_evaluate.specs.Plan.{nodes_read};
 ghost use Rattle.jp_command.specs.Lines.{lines_of, output_of};
-ghost use Rattle.jp_command.specs.Output.{StopsWriting, WritesAll};
+ghost use Rattle.jp_command.specs.Output.{WritesAll};
 ghost use Rattle.jp_command.specs.Private.Kept.{KeepsRead};
 ghost use Rattle.jp_command.specs.Run.{IsAsked, IsOutput, RanOut, RefusesQuery, RunsEval};
-ghost use Rattle.jp_command.specs.Writes.{GoesAs, WritesByCalls};
+ghost use Rattle.jp_command.specs.Writes.{WritesByCalls};
+ghost use Rattle.jp_command.specs.Written.{GoesAs, StopsWriting};
 
 use crate::device::{Source, Writer};
 use crate::fault::Fault;

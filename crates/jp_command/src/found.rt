@@ -3,12 +3,13 @@
 ghost use Rattle.std.specs.Prelude.{◌≡◌, ◌++◌, IfErr, IfOk, OnOk, map, string_bytes};
 ghost use Rattle.std.specs.List.{flat_map};
 ghost use Rattle.jp_command.specs.Found.{found_nodes};
-ghost use Rattle.jp_command.specs.Lines.{line_behind, line_of, lines_of};
+ghost use Rattle.jp_command.specs.Lead.{line_behind};
+ghost use Rattle.jp_command.specs.Lines.{line_of, lines_of};
 ghost use Rattle.jp_command.specs.Private.Fronts.{path_in_line};
 ghost use Rattle.jp_document.specs.Location.{owned_step};
 ghost use Rattle.jp_document.specs.Node.{node_at};
-ghost use Rattle.jp_command.specs.Output.{StopsWriting, WritesAll};
-ghost use Rattle.jp_command.specs.Writes.{GoesAs};
+ghost use Rattle.jp_command.specs.Output.{WritesAll};
+ghost use Rattle.jp_command.specs.Written.{GoesAs, StopsWriting};
 
 use crate::device::Writer;
 use crate::fault::Fault;

@@ -5,8 +5,8 @@ ghost use Rattle.std.specs.Prelude.{[]};
 ghost use Rattle.std.specs.Io.KnownBytes.{ReadConsumes};
 ghost use Rattle.jp_command.specs.Input.{ReadsAll};
 ghost use Rattle.jp_command.specs.Limits.{chunk_size, document_limit};
-ghost use Rattle.jp_command.specs.Private.Stops.{StopsReading};
 ghost use Rattle.jp_command.specs.Reads.{bytes_moved};
+ghost use Rattle.jp_command.specs.Stops.{StopsReading};
 
 use crate::device::{Failed, Source};
 use crate::fault::Fault;
@@ -22,8 +22,9 @@ pub fn chunk_buffer(alloc: Global) -> Result<Vec<u8>, AllocError>
 }
 
 /// Reads `input` to its end, which the first read without a byte tells. `DocumentTooLarge` at the
-/// read by which more than `DOCUMENT_LIMIT` bytes have come, `Read` at the first read that fails.
-pub(crate) fn read_all<R: Source>(alloc: Global, input: &mut R) -> Result<Vec<u8>, Fault>
+/// read by which more than `DOCUMENT_LIMIT` bytes have come, `Read` at the first read that fails, `NoMemory` where
+/// memory ran out.
+pub fn read_all<R: Source>(alloc: Global, input: &mut R) -> Result<Vec<u8>, Fault>
     ensures ok { IfOk result (λ bytes.
         ReadsAll R.remaining R.has_failed R.read_gives input.old input.new bytes.items) }
     ensures stopped { IfErr result

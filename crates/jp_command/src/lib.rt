@@ -33,8 +33,6 @@ mod lines;
 mod output;
 mod selecting;
 mod selection_fault;
-#[cfg(test)]
-mod tests;
 mod words;
 
 pub use buffer::{BufferedOutput, buffered, unbuffered};
@@ -43,11 +41,11 @@ pub use check::run_check;
 pub use device::{Device, Failed, Output, Source, Writer};
 pub use eval::{read_within_limit, run_eval};
 pub use exit::exit_status;
-pub use explained::report_refusal;
+pub use explained::{report_refusal, report_refused_expression};
 pub use fault::Fault;
 pub use found::{push_found, write_found};
 pub use help::CommandHelp;
-pub use input::chunk_buffer;
+pub use input::{chunk_buffer, read_all};
 pub use jp_limit::OutputLimit;
 pub use limits::{DOCUMENT_LIMIT, QUERY_LIMIT};
 pub use line::{refuse_words, report, run_line, status};

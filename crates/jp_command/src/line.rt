@@ -160,7 +160,7 @@ fn line_of(alloc: Global, fault: &Fault) -> Result<CowStr<'static>, AllocError>
 }
 
 /// Writes the text of clap's error, and answers its status: 4 where the error is that memory ran
-/// out, and otherwise 2. A text that cannot be written is left out.
+/// out, and otherwise 2. A text that cannot be written, or for which there is no memory, is left out.
 pub fn refuse_words<E: Writer>(alloc: Global, error: &Error, faults: &mut E) -> u8
     ensures memory { kind_of error.now ≡ ErrorKind.OutOfMemory → result ≡ 4 }
     ensures memory_line { kind_of error.now ≡ ErrorKind.OutOfMemory
@@ -176,10 +176,27 @@ pub fn refuse_words<E: Writer>(alloc: Global, error: &Error, faults: &mut E) -> 
             4
         }
         _ => {
-            if let Ok(text) = error.to_string(alloc) {
+            if let Ok(text) = usage_text(alloc, error) {
                 let _ = write_all(faults, text.as_bytes());
             }
             2
         }
     }
+}
+
+/// The text of clap's error, but for the tip to give a word that begins with two dashes as a value: no query
+/// and no expression begins so.
+fn usage_text(alloc: Global, error: &Error) -> Result<String, AllocError> {
+    let text = error.to_string(alloc)?;
+    match around_tip(text.as_str()) {
+        Some((front, end)) => format!(in alloc; "{front}\n\n{end}"),
+        None => Ok(text),
+    }
+}
+
+/// What stands before and behind that tip.
+fn around_tip(text: &str) -> Option<(&str, &str)> {
+    let (front, tip) = text.split_once("\n  tip: to pass '--")?;
+    let (_, end) = tip.split_once('\n')?;
+    Some((front.trim_end(), end.trim_start()))
 }

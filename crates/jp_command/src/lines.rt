@@ -2,13 +2,14 @@
 
 ghost use Rattle.std.specs.Prelude.{◌≡◌, ◌++◌, IfErr, IfOk, IfSome, OnOk, false, length, string_bytes};
 ghost use Rattle.std.specs.List.{flat_map};
-ghost use Rattle.jp_command.specs.Lines.{line_behind, line_of, output_behind};
-ghost use Rattle.jp_command.specs.Output.{StopsWriting, WritesAll};
-ghost use Rattle.jp_command.specs.Writes.{GoesAs};
+ghost use Rattle.jp_command.specs.Lead.{line_behind, output_behind};
+ghost use Rattle.jp_command.specs.Lines.{line_of};
+ghost use Rattle.jp_command.specs.Output.{WritesAll};
 ghost use Rattle.jp_command.specs.Private.AsFound.{WritesAsFound};
 ghost use Rattle.jp_command.specs.Private.Fronts.{ComesAlong, IsAlong, path_in_line, text_after_path};
 ghost use Rattle.jp_command.specs.Private.Shown.{GivesShown, KeepsShown};
 ghost use Rattle.jp_command.specs.Selecting.{IsBeyond, StopsOnlySpent, first_nodes};
+ghost use Rattle.jp_command.specs.Written.{GoesAs, StopsWriting};
 ghost use Rattle.jp_evaluate.specs.Lent.{given_node, has_failed, place_of, rest_of, steps_of};
 ghost use Rattle.jp_evaluate.specs.Nodelist.{nodelist};
 ghost use Rattle.jp_evaluate.specs.Stopping.{StopsSpent};

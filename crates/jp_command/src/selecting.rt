@@ -3,7 +3,8 @@
 ghost use Rattle.std.specs.Prelude.{◌≡◌, ◌<◌, ◌≤◌, ◌+◌, ◌-◌, ◌^◌, ◌⊎◌, ◌++◌, IfErr, IfOk, OnOk, [], drop};
 ghost use Rattle.std.specs.Prelude.{false, length, min, option_map, string_bytes};
 ghost use Rattle.std.specs.List.{flat_map};
-ghost use Rattle.jp_command.specs.Lines.{line_behind, lines_of};
+ghost use Rattle.jp_command.specs.Lead.{line_behind};
+ghost use Rattle.jp_command.specs.Lines.{lines_of};
 ghost use Rattle.jp_command.specs.Selecting.{IsBeyond, StopsOnlySpent, first_nodes, nodes_behind};
 ghost use Rattle.jp_command.specs.Private.Firsts.{is_more};
 ghost use Rattle.jp_command.specs.Private.Fronts.{IsAlong};

@@ -2,6 +2,7 @@
 pub mod Completeness
 pub mod Descent
 pub mod Members
+pub mod NumberValues
 pub mod Options
 pub mod Paths
 pub mod Readings

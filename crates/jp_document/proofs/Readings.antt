@@ -8,3 +8,4 @@ pub mod Fractions
 pub mod Holdings
 pub mod ListsFit
 pub mod Ranges
+pub mod Whole

@@ -7,7 +7,8 @@ use Rattle.jp_document.specs.Path.{path_of, index_text}
 use Rattle.jp_document.specs.Spelling.{spelling}
 use Rattle.jp_document.specs.Text.{text_of}
 use Rattle.jp_document.specs.Value.{Value, null, boolean, whole, text, list, object, no_items}
-use Rattle.jp_document.specs.Value.{item, no_members, member, names_rise, fits_64_bits}
+use Rattle.jp_document.specs.Value.{item, no_members, member, names_rise}
+use Rattle.jp_decimal.specs.Number.{is_in_64_bits}
 
 root_path : path_of [] ≡ codes "$"
 root_path = refl
@@ -74,14 +75,14 @@ rising = refl
 equal_names : names_rise (codes "a" ∷ codes "a" ∷ []) ≡ false
 equal_names = refl
 
-greatest : fits_64_bits (pos 18446744073709551615) ≡ true
+greatest : is_in_64_bits (pos 18446744073709551615) ≡ true
 greatest = refl
 
-too_great : fits_64_bits (pos 18446744073709551616) ≡ false
+too_great : is_in_64_bits (pos 18446744073709551616) ≡ false
 too_great = refl
 
-least : fits_64_bits (negsuc 9223372036854775807) ≡ true
+least : is_in_64_bits (negsuc 9223372036854775807) ≡ true
 least = refl
 
-too_small : fits_64_bits (negsuc 9223372036854775808) ≡ false
+too_small : is_in_64_bits (negsuc 9223372036854775808) ≡ false
 too_small = refl

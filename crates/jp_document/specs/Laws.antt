@@ -1,10 +1,10 @@
 -- Laws about the definitions.
-use Rattle.std.specs.Prelude.{◌≡◌, ◌↔◌, ◌⊎◌, ℕ, List}
+use Rattle.std.specs.Prelude.{◌≡◌, ◌↔◌, ◌⊎◌, ℕ, List, true}
 use Rattle.jp_document.specs.Document.{Defect, HasDefect, IsDocument}
 use Rattle.jp_document.specs.Location.{Location}
 use Rattle.jp_document.specs.Node.{Node, StandsIn}
 use Rattle.jp_document.specs.Path.{path_of}
-use Rattle.jp_document.specs.Value.{IsDocumentValue, NamesRise, Value}
+use Rattle.jp_document.specs.Value.{IsDocumentValue, NamesRise, Value, everywhere, is_no_decimal}
 
 -- two lists of steps have one path exactly if they are equal (RFC 9535 section 2.7)
 abbrev pub PathsDiffer : Type 0
@@ -26,6 +26,10 @@ pub record IsDocumentOrDefect (bytes : List ℕ) : Type 0 where
 -- whatever the bytes
 abbrev pub DocumentOrDefect : Type 0
 DocumentOrDefect = (bytes : List ℕ) → IsDocumentOrDefect bytes
+
+-- the numbers of a document are whole
+abbrev pub NumbersAreWhole : Type 0
+NumbersAreWhole = (bytes : List ℕ) (v : Value) → IsDocument bytes v → everywhere is_no_decimal v ≡ true
 
 -- names rise in each document's value
 abbrev pub DocumentNamesRise : Type 0

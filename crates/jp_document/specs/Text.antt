@@ -4,8 +4,10 @@ use Rattle.std.specs.Fmt.{signed_decimal}
 use Rattle.std.specs.List.{join_with_byte}
 use Rattle.jp_reading.specs.Characters.{closing_brace, closing_bracket, colon, comma, double_quote}
 use Rattle.jp_reading.specs.Characters.{opening_brace, opening_bracket}
+use Rattle.jp_decimal.specs.NumberText.{number_text}
+use Rattle.jp_decimal.specs.declared.number.Number.TheVariants.{Decimal}
 use Rattle.jp_document.specs.Spelling.{quoted_in}
-use Rattle.jp_document.specs.Value.{Value, null, boolean, whole, text, list, object}
+use Rattle.jp_document.specs.Value.{Value, null, boolean, whole, decimal, text, list, object}
 use Rattle.jp_document.specs.Value.{Items, no_items, item, Members, no_members, member}
 
 -- a text between double quotes
@@ -19,6 +21,7 @@ abbrev mutual
   text_of (boolean true) = codes "true"
   text_of (boolean false) = codes "false"
   text_of (whole z) = signed_decimal z
+  text_of (decimal c e) = number_text (Decimal (record { coefficient = c; exponent = e }))
   text_of (text s) = string_text s
   text_of (list vs) =
       opening_bracket ∷ (join_with_byte comma (item_texts vs) ++ closing_bracket ∷ [])

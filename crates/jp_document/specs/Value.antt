@@ -1,23 +1,26 @@
--- JSON values whose numbers are whole (RFC 9535 section 1.1).
-use Rattle.std.specs.Prelude.{ℕ, suc, ℤ, pos, negsuc, Bool, true, ◌&&◌, nat_lt}
-use Rattle.std.specs.Prelude.{nat_le, ◌^◌, ◌≡◌, List, [], ◌∷◌, Option, Some, None}
+-- JSON values (RFC 9535 section 1.1). The numbers of documents are whole; what else a number can be
+-- is a decimal.
+use Rattle.std.specs.Prelude.{ℕ, suc, ℤ, Bool, true, false, ◌&&◌, nat_le, ◌≡◌, List, [], ◌∷◌}
+use Rattle.std.specs.Prelude.{Option, Some, None}
 use Rattle.std.specs.Prelude.{string_bytes}
 use Rattle.std.specs.Cmp.Lexicographic.{slice_cmp}
 use Rattle.std.specs.List.{list_all}
 use Rattle.std.specs.Ordering.{is_lt, nat_cmp}
 use Rattle.std.specs.Str.{is_utf8}
 use Rattle.jp_reading.specs.Numbers.{largest_exact}
+use Rattle.jp_decimal.specs.Number.{is_decimal, is_in_64_bits}
 use Rattle.jp_document.specs.declared.value.Json.{Json, fold-Json}
 use Rattle.jp_document.specs.declared.value.Member.{Member, fold-Member}
 use Rattle.jp_document.specs.declared.value.Json.TheOpen.{Json-F, Member-F}
 
--- A value: null, a truth value, a whole number, the UTF-8 bytes of a text, a list of values, or
--- named values.
+-- A value: null, a truth value, a whole number, any other number as a coefficient with the power of
+-- ten that it is to be multiplied by, the UTF-8 bytes of a text, a list of values, or named values.
 mutual
   pub data Value : Type 0 where
     null : Value
     boolean : Bool → Value
     whole : ℤ → Value
+    decimal : ℤ → ℤ → Value
     text : List ℕ → Value
     list : Items → Value
     object : Members → Value
@@ -56,6 +59,7 @@ abbrev mutual
   everywhere p null = p null
   everywhere p (boolean b) = p (boolean b)
   everywhere p (whole z) = p (whole z)
+  everywhere p (decimal c e) = p (decimal c e)
   everywhere p (text s) = p (text s)
   everywhere p (list vs) = p (list vs) && everywhere_in_items p vs
   everywhere p (object ms) = p (object ms) && everywhere_in_members p ms
@@ -68,11 +72,6 @@ abbrev mutual
   everywhere_in_members p no_members = true
   everywhere_in_members p (member n v ms) = everywhere p v && everywhere_in_members p ms
 
--- the number is held as i64 or u64: it is from -(2^63) to (2^64)-1
-abbrev pub fits_64_bits : ℤ → Bool
-fits_64_bits (pos n) = nat_lt n (2 ^ 64)
-fits_64_bits (negsuc n) = nat_lt n (2 ^ 63)
-
 -- a list has at most (2^53)-1 items
 abbrev pub list_fits : Value → Bool
 list_fits (list vs) = nat_le (item_count vs) largest_exact
@@ -82,15 +81,21 @@ list_fits _ = true
 abbrev pub names_fit : List (List ℕ) → Bool
 names_fit ns = names_rise ns && list_all is_utf8 ns
 
--- what a document asks of each value in it: whole numbers of 64 bits, texts in UTF-8, lists that
--- fit, names that fit
+-- what is asked of each value in a document's: whole numbers of 64 bits, decimals in the form that
+-- they are held in, texts in UTF-8, lists that fit, names that fit
 abbrev pub is_allowed : Value → Bool
 is_allowed null = true
 is_allowed (boolean b) = true
-is_allowed (whole z) = fits_64_bits z
+is_allowed (whole z) = is_in_64_bits z
+is_allowed (decimal c e) = is_decimal c e
 is_allowed (text s) = is_utf8 s
 is_allowed (list vs) = list_fits (list vs)
 is_allowed (object ms) = names_fit (names_of ms)
+
+-- v is no decimal
+abbrev pub is_no_decimal : Value → Bool
+is_no_decimal (decimal c e) = false
+is_no_decimal v = true
 
 -- v may be a document's value
 abbrev pub IsDocumentValue : Value → Type 0
@@ -120,6 +125,7 @@ abbrev pub json_layer : Json-F Value (List ℕ × Value) → Value
 json_layer Json-F.Null = null
 json_layer (Json-F.Bool b) = boolean b
 json_layer (Json-F.Whole z) = whole z
+json_layer (Json-F.Decimal e c) = decimal c e
 json_layer (Json-F.Text s) = text (string_bytes s)
 json_layer (Json-F.List v) = list (items_of v.items)
 json_layer (Json-F.Members v) = object (members_of v.items)

@@ -43,7 +43,12 @@ impl<'d> DocumentValue<'d> {
     {
         match self.json {
             Json::List(items) => Some(items.len() as u64),
-            Json::Null | Json::Bool(_) | Json::Whole(_) | Json::Text(_) | Json::Members(_) => None,
+            Json::Null
+            | Json::Bool(_)
+            | Json::Whole(_)
+            | Json::Decimal { .. }
+            | Json::Text(_)
+            | Json::Members(_) => None,
         }
     }
 
@@ -65,7 +70,8 @@ impl<'d> DocumentValue<'d> {
                 let json = &member.value;
                 Some((Step::Name(member.name.as_str()), DocumentValue { json }))
             }
-            Json::Null | Json::Bool(_) | Json::Whole(_) | Json::Text(_) => None,
+            Json::Null | Json::Bool(_) | Json::Whole(_) | Json::Decimal { .. } | Json::Text(_) =>
+                None,
         }
     }
 
@@ -77,7 +83,12 @@ impl<'d> DocumentValue<'d> {
     {
         match self.json {
             Json::List(_) => self.child(index as usize),
-            Json::Null | Json::Bool(_) | Json::Whole(_) | Json::Text(_) | Json::Members(_) => None,
+            Json::Null
+            | Json::Bool(_)
+            | Json::Whole(_)
+            | Json::Decimal { .. }
+            | Json::Text(_)
+            | Json::Members(_) => None,
         }
     }
 
@@ -94,7 +105,12 @@ impl<'d> DocumentValue<'d> {
                     Err(_) => None,
                 }
             }
-            Json::Null | Json::Bool(_) | Json::Whole(_) | Json::Text(_) | Json::List(_) => None,
+            Json::Null
+            | Json::Bool(_)
+            | Json::Whole(_)
+            | Json::Decimal { .. }
+            | Json::Text(_)
+            | Json::List(_) => None,
         }
     }
 

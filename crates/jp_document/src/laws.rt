@@ -2,7 +2,7 @@
 
 ghost use Rattle.jp_document.specs.ChildNodes.{ChildrenAreExact};
 ghost use Rattle.jp_document.specs.Laws.{DocumentNamesRise, DocumentOrDefect, PathsDiffer};
-ghost use Rattle.jp_document.specs.Laws.{NodesDiffer};
+ghost use Rattle.jp_document.specs.Laws.{NodesDiffer, NumbersAreWhole};
 
 /// The children of a node are exactly the nodes one step further on, rising in document order; each
 /// is a node of the document, and the child at a step is the node there, if there is one (RFC 9535
@@ -22,6 +22,12 @@ pub fn paths_differ()
 /// both.
 pub fn document_or_defect()
     ensures { DocumentOrDefect }
+{}
+
+/// The numbers of a document are whole: a value may hold decimals, and none that is read of a document
+/// does.
+pub fn numbers_are_whole()
+    ensures { NumbersAreWhole }
 {}
 
 /// The names of an object's members rise by bytes, in a document's value and in each value inside

@@ -41,5 +41,5 @@ pub use path::{path_text, push_path, push_quote, push_step, quote};
 pub use path_fault::PathFault;
 pub use path_reader::read_path;
 pub use reading::parsed_value;
-pub use text::{push_integer, push_text};
+pub use text::{push_decimal, push_integer, push_text};
 pub use value::{Json, Member};

@@ -1,7 +1,7 @@
 //! Normalized paths (RFC 9535 section 2.7).
 
 ghost use Rattle.std.specs.Prelude.{◌≡◌, ◌++◌, map, string_bytes, IfOk, OnOk};
-ghost use Rattle.jp_document.specs.Appending.{IsPartAppended};
+ghost use Rattle.jp_decimal.specs.Appended.{IsBegun};
 ghost use Rattle.jp_document.specs.Location.{step_of, owned_step};
 ghost use Rattle.jp_document.specs.Path.{path_of, quoted, step_text, index_text};
 
@@ -34,7 +34,7 @@ pub fn quote(alloc: Global, text: &str) -> Result<String, AllocError>
 /// what was to come stands after it.
 pub fn push_quote(out: &mut String, text: &str) -> Result<(), AllocError>
     ensures ok { OnOk result (string_bytes out.new ≡ string_bytes out.old ++ quoted text.now) }
-    ensures kept { IsPartAppended (string_bytes out.old) (quoted text.now) (string_bytes out.new) }
+    ensures kept { IsBegun (string_bytes out.old) (quoted text.now) (string_bytes out.new) }
 {
     push_quoted(out, text, b'\'')
 }
@@ -44,7 +44,7 @@ pub fn push_quote(out: &mut String, text: &str) -> Result<(), AllocError>
 pub fn push_path(out: &mut String, location: &[Step]) -> Result<(), AllocError>
     ensures ok { OnOk result
         (string_bytes out.new ≡ string_bytes out.old ++ path_of (map step_of location.now)) }
-    ensures kept { IsPartAppended (string_bytes out.old) (path_of (map step_of location.now))
+    ensures kept { IsBegun (string_bytes out.old) (path_of (map step_of location.now))
         (string_bytes out.new) }
 {
     out.push('$')?;
@@ -71,7 +71,7 @@ pub(crate) fn owned_path_text(alloc: Global, location: &[OwnedStep]) -> Result<S
 pub fn push_step(out: &mut String, step: Step) -> Result<(), AllocError>
     ensures ok { OnOk result
         (string_bytes out.new ≡ string_bytes out.old ++ step_text (step_of step.entry)) }
-    ensures kept { IsPartAppended (string_bytes out.old) (step_text (step_of step.entry))
+    ensures kept { IsBegun (string_bytes out.old) (step_text (step_of step.entry))
         (string_bytes out.new) }
 {
     out.push('[')?;
@@ -84,7 +84,7 @@ pub fn push_step(out: &mut String, step: Step) -> Result<(), AllocError>
 
 fn push_index(out: &mut String, index: u64) -> Result<(), AllocError>
     ensures ok { OnOk result (string_bytes out.new ≡ string_bytes out.old ++ index_text index) }
-    ensures kept { IsPartAppended (string_bytes out.old) (index_text index) (string_bytes out.new) }
+    ensures kept { IsBegun (string_bytes out.old) (index_text index) (string_bytes out.new) }
 {
     out.push_str(Buffer::new().format(index))
 }

@@ -6,7 +6,7 @@ ghost use Rattle.std.specs.Prelude.{All, ◌==◌, ◌||◌, map, nat_lt};
 ghost use Rattle.std.specs.Simd.Lanes.{mask_l};
 ghost use Rattle.std.specs.Bool.{OnTrue};
 ghost use Rattle.std.specs.List.{flat_map};
-ghost use Rattle.jp_document.specs.Appending.{IsPartAppended};
+ghost use Rattle.jp_decimal.specs.Appended.{IsBegun};
 ghost use Rattle.jp_document.specs.Spelling.{spelling, quoted_in, hex_digit, control};
 
 use std::alloc::AllocError;
@@ -19,7 +19,7 @@ pub(crate) fn push_quoted(out: &mut String, text: &str, quote: u8) -> Result<(),
     requires { quote < 128 }
     ensures ok { OnOk result
         (string_bytes out.new ≡ string_bytes out.old ++ quoted_in quote text.now) }
-    ensures kept { IsPartAppended (string_bytes out.old) (quoted_in quote text.now)
+    ensures kept { IsBegun (string_bytes out.old) (quoted_in quote text.now)
         (string_bytes out.new) }
 {
     if is_plain(text.as_bytes(), quote) {
@@ -36,7 +36,7 @@ fn push_plain(out: &mut String, text: &str, quote: u8) -> Result<(), AllocError>
     requires plain { flat_map (spelling quote) text.now ≡ text.now }
     ensures ok { OnOk result
         (string_bytes out.new ≡ string_bytes out.old ++ quoted_in quote text.now) }
-    ensures kept { IsPartAppended (string_bytes out.old) (quoted_in quote text.now)
+    ensures kept { IsBegun (string_bytes out.old) (quoted_in quote text.now)
         (string_bytes out.new) }
 {
     out.push(char::from(quote))?;
@@ -50,7 +50,7 @@ fn push_escaped(out: &mut String, text: &str, quote: u8) -> Result<(), AllocErro
     requires { quote < 128 }
     ensures ok { OnOk result
         (string_bytes out.new ≡ string_bytes out.old ++ quoted_in quote text.now) }
-    ensures kept { IsPartAppended (string_bytes out.old) (quoted_in quote text.now)
+    ensures kept { IsBegun (string_bytes out.old) (quoted_in quote text.now)
         (string_bytes out.new) }
 {
     out.push(char::from(quote))?;
@@ -113,7 +113,7 @@ fn push_spelled(out: &mut String, text: &str, quote: u8) -> Result<(), AllocErro
     requires { quote < 128 }
     ensures ok { OnOk result
         (string_bytes out.new ≡ string_bytes out.old ++ flat_map (spelling quote) text.now) }
-    ensures kept { IsPartAppended (string_bytes out.old) (flat_map (spelling quote) text.now)
+    ensures kept { IsBegun (string_bytes out.old) (flat_map (spelling quote) text.now)
         (string_bytes out.new) }
 {
     let mut rest = text;
@@ -222,7 +222,7 @@ fn is_marked(byte: u8, quote: u8) -> bool
 fn push_marked(out: &mut String, byte: u8, quote: u8) -> Result<(), AllocError>
     requires { byte < 128 }
     ensures ok { OnOk result (string_bytes out.new ≡ string_bytes out.old ++ spelling quote byte) }
-    ensures kept { IsPartAppended (string_bytes out.old) (spelling quote byte)
+    ensures kept { IsBegun (string_bytes out.old) (spelling quote byte)
         (string_bytes out.new) }
 {
     match byte {
@@ -241,7 +241,7 @@ fn push_marked(out: &mut String, byte: u8, quote: u8) -> Result<(), AllocError>
 fn push_control(out: &mut String, byte: u8) -> Result<(), AllocError>
     requires { byte < 32 }
     ensures ok { OnOk result (string_bytes out.new ≡ string_bytes out.old ++ control byte) }
-    ensures kept { IsPartAppended (string_bytes out.old) (control byte) (string_bytes out.new) }
+    ensures kept { IsBegun (string_bytes out.old) (control byte) (string_bytes out.new) }
 {
     out.push_str("\\u00")?;
     push_two(out, hex_digit_of(byte / 16), hex_digit_of(byte % 16))
@@ -251,7 +251,7 @@ fn push_two(out: &mut String, first: u8, second: u8) -> Result<(), AllocError>
     requires first { first < 128 }
     requires second { second < 128 }
     ensures ok { OnOk result (string_bytes out.new ≡ string_bytes out.old ++ first ∷ second ∷ []) }
-    ensures kept { IsPartAppended (string_bytes out.old) (first ∷ second ∷ [])
+    ensures kept { IsBegun (string_bytes out.old) (first ∷ second ∷ [])
         (string_bytes out.new) }
 {
     out.push(char::from(first))?;

@@ -1,12 +1,14 @@
 //! Values as plain data.
 
-/// A JSON value whose numbers are whole.
+/// A JSON value. The numbers of a document are whole.
 #[cycle(json)]
 #[derive(Drop)]
 pub enum Json {
     Null,
     Bool(bool),
     Whole(i128),
+    /// Any other number: the coefficient times ten to the exponent.
+    Decimal { exponent: i32, coefficient: i128 },
     Text(String),
     List(Vec<Json>),
     Members(Vec<Member>),

@@ -6,4 +6,5 @@ pub mod Members
 pub mod Plain
 pub mod Queries
 pub mod Root
+pub mod Together
 pub mod Told

@@ -1,5 +1,8 @@
 -- What is read of a document for a query has the nodes that the query selects: for the calls of `Plan`.
-use Rattle.std.proofs.Common.{ℕ, List, ap, map, option_to_list, refl, subst, sym, ◌∙◌}
+use Rattle.std.proofs.Common.{ℕ, ◌+◌, ◌<◌, All, List, ap, get_or, length, map, option_to_list, refl, subst}
+use Rattle.std.proofs.Common.{sym, take, ◌∙◌}
+use Rattle.std.proofs.lemmas.List.Elements.{All-more, All-weaker}
+use Rattle.jp_check.specs.Checked.{Profiled}
 use Rattle.jp_document.specs.Document.{IsDocument}
 use Rattle.jp_document.specs.Location.{owned_step}
 use Rattle.jp_document.specs.Node.{node_at}
@@ -13,6 +16,7 @@ use Rattle.jp_held.specs.declared.portion.Excerpt.TheVariants as read
 use Rattle.jp_held.specs.declared.portion.Portion.{Portion}
 use Rattle.jp_held.specs.declared.portion.Portion.TheVariants.{Value, Members, Whole}
 use Rattle.jp_tree.specs.Tree.{QueryTree}
+use Rattle.jp_tree.specs.Views.{query_of}
 use Rattle.jp_evaluate.specs.Named.{NamesLocation}
 use Rattle.jp_evaluate.specs.Plan.{HoldsPortion, IsReadToAnswer, Serves}
 
@@ -58,3 +62,15 @@ holds-whole p bytes f is = record {
   nodes = λ q serves. refl;
   truth = λ e serves. refl;
 }
+
+-- one more query is served, by a portion that serves those before it too
+pub serves-more : (qs : List Profiled) (i : ℕ) (d : Profiled) (before after : Portion)
+    → ((q : QueryTree) → Serves q before → Serves q after) → i < length qs
+    → All (λ c. Serves (query_of c.query) before) (take i qs)
+    → Serves (query_of (get_or qs i d).query) after
+    → All (λ c. Serves (query_of c.query) after) (take (i + 1) qs)
+serves-more qs i d before after wider within each one =
+    All-more (λ (c : Profiled). Serves (query_of c.query) after) qs i d within
+    (All-weaker (λ (c : Profiled). Serves (query_of c.query) before)
+    (λ (c : Profiled). Serves (query_of c.query) after) (λ c. wider (query_of c.query)) (take i qs) each)
+    one

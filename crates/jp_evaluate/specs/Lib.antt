@@ -6,6 +6,7 @@ pub mod Laws
 pub mod Lent
 pub mod Named
 pub mod Nodelist
+pub mod NodelistLaws
 pub mod Patterns
 pub mod Plan
 pub mod Private

@@ -14,8 +14,7 @@ mod root;
 
 use crate::asked::filters::push_expr;
 use crate::asked::members::{has_no_filter, name_of, push_members};
-use crate::asked::root::names_of_root;
-pub(crate) use crate::asked::root::{asked_by_all, asked_by_test};
+pub(crate) use crate::asked::root::{asked_beside, asked_by_test};
 use jp_check::Checked;
 use jp_flat::AskedFor;
 use jp_tree::{Segment, Selector};
@@ -37,10 +36,7 @@ pub(crate) fn asked_by(alloc: Global, query: &Checked) -> Result<Option<AskedFor
     if let Some(names) = names_of_items(alloc, segments)? {
         return Ok(Some(AskedFor::OfItems(names)));
     }
-    match names_of_root(alloc, query)? {
-        Some(names) => Ok(Some(AskedFor::OfRoot(names))),
-        None => Ok(None),
-    }
+    asked_beside(AskedFor::OfRoot(Vec::new(alloc)), query)
 }
 
 /// The name that a descendant segment selects, if it comes first and no filter comes later.

@@ -25,7 +25,7 @@ use crate::filter::Asking;
 use crate::kind::{Kind, kind_of, value_of_value};
 use crate::operand::{lent_text, literal_text, literal_value, seen_text, whole};
 use crate::selecting::{NodesQuery, Selecting};
-use crate::tally::{may_meet, tally};
+use crate::tally::tally;
 use jp_check::Function;
 use jp_lent::Selectable;
 use jp_match::Matching;
@@ -177,7 +177,7 @@ impl<'a, 'q, V: Selectable + 'q, M: Matching> Asking<'a, 'q, V, M> {
         ensures stopped { StopsSpent result work.new.steps }
     {
         let segments = &nodes.query.segments;
-        if !nodes.distinct && may_meet(segments) {
+        if !nodes.distinct && self.evaluation.may_meet(segments) {
             let start = self.start(nodes.query);
             let tallied = tally(self.evaluation, work, segments, start, u64::MAX)?;
             if tallied.count == u64::MAX {
@@ -208,7 +208,7 @@ impl<'a, 'q, V: Selectable + 'q, M: Matching> Asking<'a, 'q, V, M> {
         ensures stopped { StopsSpent result work.new.steps }
     {
         let segments = &nodes.query.segments;
-        if !nodes.distinct && may_meet(segments) {
+        if !nodes.distinct && self.evaluation.may_meet(segments) {
             let start = self.start(nodes.query);
             let tallied = tally(self.evaluation, work, segments, start, 1)?;
             if tallied.count == 1 {

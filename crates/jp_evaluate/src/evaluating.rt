@@ -14,20 +14,32 @@ ghost use Rattle.jp_evaluate.specs.Private.Meanings.{matched};
 
 use crate::evaluation_fault::EvaluationFault;
 use crate::pattern::Patterns;
-use jp_check::Function;
+use jp_check::{Function, may_meet};
 use jp_match::{CountedPattern, Matching, Tests};
 use jp_select::Steps;
+use jp_tree::Segment;
 use std::alloc::{AllocError, Global};
 
 /// How many class tests a step is for.
 const TESTS_A_STEP: u64 = 64;
 
-/// What an evaluation goes by: the value of the root, `$`, and the matcher of patterns.
+/// What an evaluation goes by: the value of the root, `$`, the matcher of patterns, and whether a query
+/// in a filter may come to a value by several ways.
 #[derive(Drop)]
 pub(crate) struct Evaluation<'q, V, M> {
     pub(crate) alloc: Global,
     pub(crate) root: V,
     pub(crate) matcher: &'q M,
+    pub(crate) ways: bool,
+}
+
+impl<'q, V, M> Evaluation<'q, V, M> {
+    /// Whether several ways by the segments of a query in a filter may lead to a value. Where none of
+    /// these queries does so, none is looked at.
+    #[inline(always)]
+    pub(crate) fn may_meet(&self, segments: &[Segment]) -> bool {
+        self.ways && may_meet(segments)
+    }
 }
 
 /// What changes while an evaluation goes on: the patterns that were read, and the steps that may still be
@@ -117,7 +129,10 @@ fn text_answer<'q, V, M: Matching>(
     work.steps.take_many(ahead)?;
     let mut tests = Tests::new();
     let answer = is_matched(evaluation, extent, pattern, text, &mut tests)?;
-    work.steps.take_many(steps_beyond(&tests, ahead))?;
+    let beyond = steps_beyond(&tests, ahead);
+    if beyond > 0 {
+        work.steps.take_many(beyond)?;
+    }
     Ok(answer)
 }
 

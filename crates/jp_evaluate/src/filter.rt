@@ -16,7 +16,7 @@ use crate::calls::call_query;
 use crate::evaluating::{Evaluation, Work};
 use crate::evaluation_fault::EvaluationFault;
 use crate::operand::literal_value;
-use crate::tally::{may_meet, tally};
+use crate::tally::tally;
 use crate::walk::Walk;
 use jp_lent::{Lent, Selectable};
 use jp_match::Matching;
@@ -108,7 +108,7 @@ impl<'a, 'q, V: Selectable + 'q, M: Matching> Asking<'a, 'q, V, M> {
         ensures takes { Takes work.old.steps work.new.steps }
         ensures stopped { StopsSpent result work.new.steps }
     {
-        if may_meet(&query.segments) {
+        if self.evaluation.may_meet(&query.segments) {
             let start = self.start(query);
             let tallied = tally(self.evaluation, work, &query.segments, start, 0)?;
             return Ok(tallied.count > 0);

@@ -1,8 +1,9 @@
 //! Laws over the definitions.
 
-ghost use Rattle.jp_evaluate.specs.Laws.{DistinctIsExact, NamesRiseInSides, PathSelectsItsNode, SelectsNodesAlone};
 ghost use Rattle.jp_evaluate.specs.Cost.{NodesTakeSteps};
-ghost use Rattle.jp_evaluate.specs.Laws.{CountsAddUp, ExistenceGoesBySets, SingularSelectsOne, StandardCalls};
+ghost use Rattle.jp_evaluate.specs.Laws.{PathSelectsItsNode, SelectsNodesAlone};
+ghost use Rattle.jp_evaluate.specs.NodelistLaws.{CountsAddUp, DistinctIsExact, ExistenceGoesBySets, NamesRiseInSides};
+ghost use Rattle.jp_evaluate.specs.NodelistLaws.{SingularSelectsOne, StandardCalls};
 
 /// The normalized path of a node of a document, read as a query, is accepted and selects that node
 /// alone (RFC 9535 section 2.7).

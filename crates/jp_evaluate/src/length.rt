@@ -47,7 +47,11 @@ fn size_of<'a, V: Lent + 'a>(value: Comparable<'a, V>) -> Option<usize>
     match value {
         Comparable::Text(text) => Some(char_count(text)),
         Comparable::Lent(value) => lent_size(value),
-        Comparable::Nothing | Comparable::Null | Comparable::Bool(_) | Comparable::Whole(_) => None,
+        Comparable::Nothing
+        | Comparable::Null
+        | Comparable::Bool(_)
+        | Comparable::Whole(_)
+        | Comparable::Decimal { .. } => None,
     }
 }
 
@@ -58,7 +62,7 @@ fn lent_size<'a, V: Lent + 'a>(value: V) -> Option<usize>
     match value.seen() {
         Seen::Text(text) => Some(char_count(text)),
         Seen::List | Seen::Members => Some(value.count()),
-        Seen::Null | Seen::Bool(_) | Seen::Whole(_) => None,
+        Seen::Null | Seen::Bool(_) | Seen::Whole(_) | Seen::Decimal { .. } => None,
     }
 }
 

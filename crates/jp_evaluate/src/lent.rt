@@ -17,9 +17,8 @@ ghost use Rattle.jp_evaluate.specs.Patterns.{is_short, texts_in, texts_kept};
 use crate::evaluating::{Evaluation, Work};
 use crate::evaluation_fault::EvaluationFault;
 use crate::pattern::Patterns;
-use crate::settled::has_answers_due;
 use crate::walk::{Frame, Reached, Walk};
-use jp_check::Checked;
+use jp_check::{Checked, Needs};
 use jp_document::Step;
 use jp_lent::Selectable;
 use jp_match::Matching;
@@ -52,10 +51,10 @@ enum Segments<'q> {
 }
 
 impl<'q> Segments<'q> {
-    fn of(query: &'q Query) -> Segments<'q>
+    fn of(query: &'q Query, needs: Needs) -> Segments<'q>
         ensures { AreOf result query.now }
     {
-        if has_answers_due(query) {
+        if needs.answers {
             Segments::Unsettled(query)
         } else {
             Segments::Lent(&query.segments)
@@ -145,9 +144,10 @@ pub fn lent_nodes_in<'d: 'q, 'q, V: Selectable + 'd, M: Matching>(
             alloc,
             root,
             matcher,
+            ways: query.needs().ways,
         },
         work: Work { patterns, steps },
-        segments: Segments::of(query.query()),
+        segments: Segments::of(query.query(), query.needs()),
         walk: Walk::within(frames, root),
         last: None,
         failed: false,

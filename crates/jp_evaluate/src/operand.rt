@@ -60,6 +60,11 @@ pub(crate) fn seen_text(value: Option<Seen<'_>>) -> Option<&str>
 {
     match value? {
         Seen::Text(text) => Some(text),
-        Seen::Null | Seen::Bool(_) | Seen::Whole(_) | Seen::List | Seen::Members => None,
+        Seen::Null
+        | Seen::Bool(_)
+        | Seen::Whole(_)
+        | Seen::Decimal { .. }
+        | Seen::List
+        | Seen::Members => None,
     }
 }

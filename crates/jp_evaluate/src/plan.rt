@@ -8,13 +8,14 @@ ghost use Rattle.jp_evaluate.specs.Named.{location_named};
 ghost use Rattle.jp_evaluate.specs.Plan.{HoldsPortion, IsReadToAnswer, Serves, ServesTest, location_in};
 ghost use Rattle.jp_evaluate.specs.Private.Asks.{portion_asked};
 
-use crate::asked::{asked_by, asked_by_all, asked_by_test};
+use crate::asked::{asked_beside, asked_by, asked_by_test};
 use crate::named::named_location;
 use jp_check::{Checked, CheckedFilter};
 use jp_document::DocumentFault;
 use jp_flat::{AskedFor, Flat, Room};
 use jp_held::{Excerpt, Portion, read_asked, read_into, read_portion};
 use std::alloc::{AllocError, Global};
+use std::mem;
 
 /// How much of a document is read for queries, or for the expression of a filter: the value at the
 /// location that a query names, the members that are asked for, or the whole document.
@@ -39,10 +40,29 @@ impl Plan {
         ensures { IfOk result (λ p. All (λ q. Serves q p.portion)
             (map (λ c. query_of c.query) queries.now)) }
     {
-        let asked = asked_by_all(alloc, queries)?;
-        Ok(Plan {
-            portion: members_or_whole(asked),
-        })
+        let mut plan = Plan::of_none(alloc);
+        for query in queries {
+            plan.add(query)?;
+        }
+        Ok(plan)
+    }
+
+    /// The plan for no query, to which those are added that are answered together.
+    pub fn of_none(alloc: Global) -> Plan {
+        Plan {
+            portion: Portion::Members(AskedFor::OfRoot(Vec::new(alloc))),
+        }
+    }
+
+    /// Serves a query together with those that it serves. The only error is that memory ran out, and then it
+    /// serves each query.
+    pub fn add(&mut self, query: &Checked) -> Result<(), AllocError>
+        ensures serves { Serves (query_of query.now.query) self.new.portion }
+        ensures others { (q : QueryTree) → Serves q self.old.portion → Serves q self.new.portion }
+    {
+        let portion = mem::replace(&mut self.portion, Portion::Whole);
+        self.portion = portion_beside(portion, query)?;
+        Ok(())
     }
 
     /// The plan for an expression that is tested where a document is its root and its current node. The
@@ -127,6 +147,20 @@ fn members_or_whole(asked: Option<AskedFor>) -> Portion
     match asked {
         Some(asked) => Portion::Members(asked),
         None => Portion::Whole,
+    }
+}
+
+/// How much of a document is read for a query, together with those that so much is read for.
+fn portion_beside(portion: Portion, query: &Checked) -> Result<Portion, AllocError>
+    ensures serves { IfOk result (Serves (query_of query.now.query)) }
+    ensures others { IfOk result (λ p. (q : QueryTree) → Serves q portion → Serves q p) }
+{
+    match portion {
+        Portion::Members(asked) => {
+            let asked = asked_beside(asked, query)?;
+            Ok(members_or_whole(asked))
+        }
+        Portion::Value(_) | Portion::Whole => Ok(Portion::Whole),
     }
 }
 

@@ -13,12 +13,10 @@ ghost use Rattle.jp_evaluate.specs.Private.Settled.{settled_selector, settled_se
 mod answers;
 mod calls;
 mod copies;
-mod due;
 mod expressions;
 
 use crate::evaluating::{Evaluation, Work};
 use crate::evaluation_fault::EvaluationFault;
-pub(crate) use due::has_answers_due;
 use jp_lent::Selectable;
 use jp_match::Matching;
 use jp_tree::{Query, Segment, Selector};

@@ -85,24 +85,6 @@ impl<V: Selectable> Tallied<V> {
     }
 }
 
-/// Whether several ways by these segments may lead to a value, so that walking each takes more than
-/// the values and the segments: two of them may choose a value twice.
-pub(crate) fn may_meet(segments: &[Segment]) -> bool {
-    if segments.len() < 2 {
-        return false;
-    }
-    let mut wide = false;
-    for segment in segments {
-        if segment.descendant || segment.selectors.len() > 1 {
-            if wide {
-                return true;
-            }
-            wide = true;
-        }
-    }
-    false
-}
-
 /// The nodes that segments reach from a value; it ends where they are more than `most`.
 #[cycle(filter)]
 pub(crate) fn tally<'q, V: Selectable + 'q, M: Matching>(

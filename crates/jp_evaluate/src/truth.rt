@@ -41,6 +41,7 @@ pub fn holds_of<'d: 'q, 'q, V: Selectable + 'd, M: Matching>(
         alloc,
         root,
         matcher,
+        ways: filter.needs().ways,
     };
     let asking = Asking {
         evaluation: &evaluation,

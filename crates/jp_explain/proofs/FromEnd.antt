@@ -10,8 +10,8 @@ use Rattle.std.specs.Str.{chars}
 use Rattle.jp_reading.specs.Forms.{AllPassing}
 use Rattle.jp_reading.specs.Texts.{Text, is_among}
 use Rattle.jp_explain.specs.declared.class.Class.TheVariants.{Blank, Digit}
-use Rattle.jp_explain.specs.Classes.{holds}
-use Rattle.jp_explain.specs.Marks.{begins, begins_in}
+use Rattle.jp_explain.specs.Private.Classes.{holds}
+use Rattle.jp_explain.specs.Private.Marks.{begins, begins_in}
 use Rattle.jp_explain.specs.Private.FromEnd.{IsFromEnd, last, script}
 use Rattle.jp_explain.proofs.Ascii.{ascii_chars}
 

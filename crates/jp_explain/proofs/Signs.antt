@@ -6,7 +6,7 @@ use Rattle.std.specs.List.{list_any, position_or_len}
 use Rattle.std.proofs.Math.Numerals.{one-add}
 use Rattle.std.proofs.lemmas.Bool.Decides.{nat_tests}
 use Rattle.jp_reading.specs.Texts.{is_among}
-use Rattle.jp_explain.specs.Marks.{begins_in}
+use Rattle.jp_explain.specs.Private.Marks.{begins_in}
 
 first-or-length : (p : ℕ → Bool) (xs : List ℕ) → position_or_len p xs ≤ length xs
     → unwrap_or (position p xs) (length xs) ≡ position_or_len p xs

@@ -6,7 +6,6 @@ use Rattle.jp_reading.specs.Characters.{space}
 use Rattle.jp_reading.specs.Texts.{Text}
 use Rattle.jp_explain.specs.declared.explanation.Explanation.{Explanation}
 use Rattle.jp_explain.specs.Place.{column, front_of, line_at, line_before, line_number, rest_of}
-use Rattle.jp_explain.specs.Sentences.{sentence_of}
 use Rattle.jp_explain.specs.Shown.{shown, shown_width}
 
 -- the explanation is of that byte of the text: its line as it is shown, with how many columns of a
@@ -25,10 +24,10 @@ caret_line width = replicate width space ++ codes "^"
 -- the line of a suggestion, if there is one
 abbrev pub suggestion_text : {Z : Type 0} → Option (String Z) → Text
 suggestion_text None = []
-suggestion_text (Some query) = codes "Try: " ++ shown (chars (string_bytes query)) ++ codes "\n"
+suggestion_text (Some query) = codes "Try: " ++ chars (string_bytes query) ++ codes "\n"
 
--- the query's line, the caret's line, the sentence for the reason, and the suggestion
+-- the query's line, the caret's line, the sentence, and the suggestion
 abbrev pub explanation_text : Explanation → Text
 explanation_text e =
     codes "  " ++ chars (string_bytes e.line) ++ codes "\n  " ++ caret_line e.width_before
-    ++ codes "\n" ++ sentence_of e.reason ++ codes "\n" ++ suggestion_text e.suggestion
+    ++ codes "\n" ++ chars e.sentence.now ++ codes "\n" ++ suggestion_text e.suggestion

@@ -1,12 +1,10 @@
 -- Where a byte is in a text: after how many characters, in which line, and in which column.
-use Rattle.std.specs.Prelude.{ℕ, suc, Bool, ◌+◌, ◌-◌, ◌==◌, nat_le, length, take, drop, [], ◌∷◌, ◌++◌}
+use Rattle.std.specs.Prelude.{ℕ, suc, ◌+◌, ◌-◌, ◌==◌, nat_le, not, length, take, drop, [], ◌∷◌, ◌++◌}
 use Rattle.std.specs.Prelude.{if◌then◌else◌}
 use Rattle.std.specs.Char.{len_utf8}
 use Rattle.std.specs.List.{count_by, suffix_len, take_while}
 use Rattle.jp_reading.specs.Characters.{line_feed}
 use Rattle.jp_reading.specs.Texts.{Text}
-use Rattle.jp_explain.specs.declared.class.Class.TheVariants.{Line}
-use Rattle.jp_explain.specs.Classes.{holds}
 
 -- how many of the first characters end at or before that byte
 abbrev pub characters_before : ℕ → Text → ℕ
@@ -21,10 +19,6 @@ front_of place text = take (characters_before place text) text
 abbrev pub rest_of : ℕ → Text → Text
 rest_of place text = drop (characters_before place text) text
 
--- the characters at a text's end that pass the test
-abbrev pub last_while : (ℕ → Bool) → Text → Text
-last_while p text = drop (length text - suffix_len p text) text
-
 -- the front, of which each line feed starts a line: one at the text's end starts none
 abbrev pub starting : Text → Text → Text
 starting front [] = take (length front - 1) front
@@ -33,11 +27,13 @@ starting front (c ∷ rest) = front
 -- the line of a place, before it: what the front has after its last line feed that starts a line
 abbrev pub line_before : Text → Text → Text
 line_before front rest =
-    drop (length (starting front rest) - suffix_len (holds Line) (starting front rest)) front
+    drop
+    (length (starting front rest) - suffix_len (λ c. not (c == line_feed)) (starting front rest))
+    front
 
 -- the line of a place, from there on: what the rest has before its first line feed
 abbrev pub line_after : Text → Text
-line_after = take_while (holds Line)
+line_after = take_while (λ c. not (c == line_feed))
 
 -- of a byte the line that holds it, the number of that line, and the column of the character there,
 -- both from 1

@@ -4,7 +4,7 @@ ghost use Rattle.std.specs.Prelude.{◌≡◌, ◌≤◌, ◌-◌, length, take,
 ghost use Rattle.std.specs.List.{prefix_len, suffix_len};
 ghost use Rattle.jp_reading.specs.Numbers.{is_digit};
 ghost use Rattle.jp_query.specs.Names.{is_name_first};
-ghost use Rattle.jp_explain.specs.Classes.{holds};
+ghost use Rattle.jp_explain.specs.Private.Classes.{holds};
 
 use crate::shown::is_hidden;
 

@@ -1,12 +1,12 @@
 //! What is told of a refused query.
 
-ghost use Rattle.std.specs.Prelude.{◌≡◌, ◌++◌, IfOk, IfSome, string_bytes};
+ghost use Rattle.std.specs.Prelude.{◌≡◌, ◌++◌, true, IfOk, IfSome, string_bytes};
 ghost use Rattle.std.specs.Str.{chars};
 ghost use Rattle.jp_explain.specs.Explanation.{IsPlacedAt};
-ghost use Rattle.jp_explain.specs.Place.{front_of, rest_of};
-ghost use Rattle.jp_explain.specs.Reasons.{reason_of};
-ghost use Rattle.jp_explain.specs.Suggestion.{IsQuery};
+ghost use Rattle.jp_reading.specs.Sentences.{is_sentence};
+ghost use Rattle.jp_explain.specs.Suggestion.{IsSuggested, IsSuggestedExpression};
 
+use crate::expression::{as_query, expression_suggestion};
 use crate::place::{characters, line_after, line_before, line_feeds, split_at_byte, starting};
 use crate::reason::Reason;
 use crate::reasons::reason_of;
@@ -32,7 +32,10 @@ pub struct Explanation {
     pub width_before: usize,
     /// Why the query is refused.
     pub reason: Reason,
-    /// A query that is accepted in the profile, where it is plain what was meant.
+    /// The sentence for the reason: one line of printable characters, in ASCII.
+    pub sentence: &'static str,
+    /// A query, or of an expression an expression, that is accepted in the profile, where it is plain what was
+    /// meant. None of its characters is one that a terminal would not show.
     pub suggestion: Option<String>,
 }
 
@@ -42,7 +45,8 @@ pub struct Explanation {
 /// the text is its end. The reason is told by the refusal's kind and by what is at its place. The
 /// suggestion is the text with what is wrong at the place mended, and then at the place where the
 /// mended text is refused, at most eight times in all. Each mended text is read in the profile, and
-/// only one that is accepted is told. The only error is that memory ran out.
+/// only one that is accepted is told, in its canonical text where a character of it would not be shown.
+/// The only error is that memory ran out.
 pub fn explain(
     alloc: Global,
     text: &str,
@@ -50,15 +54,58 @@ pub fn explain(
     refusal: Refusal,
 ) -> Result<Explanation, AllocError>
     ensures place { IfOk result (IsPlacedAt (chars text.now) refusal.place) }
-    ensures reason { IfOk result (λ e. e.reason
-        ≡ reason_of refusal.kind (front_of refusal.place (chars text.now))
-        (rest_of refusal.place (chars text.now))) }
+    ensures sentence { IfOk result (λ e. is_sentence e.sentence.now ≡ true) }
     ensures suggestion { IfOk result
-        (λ e. IfSome e.suggestion (λ query. IsQuery profile (chars (string_bytes query)))) }
+        (λ e. IfSome e.suggestion (λ query. IsSuggested profile (chars (string_bytes query)))) }
 {
     let suggestion = suggestion(alloc, text, profile, refusal)?;
+    let reason = reason_at(alloc, text, refusal)?;
+    placed(alloc, text, refusal.place, reason, suggestion)
+}
+
+/// Explains the refusal of an expression alone, as `read_filter` reads it, in the profile.
+///
+/// It is explained as the same expression would be in a query that has but the one filter with it. The place
+/// and its line are those of the expression's own text, and a suggestion is an expression, which is read
+/// as one before it is told. The only error is that memory ran out.
+pub fn explain_expression(
+    alloc: Global,
+    text: &str,
+    profile: Profile,
+    refusal: Refusal,
+) -> Result<Explanation, AllocError>
+    ensures place { IfOk result (IsPlacedAt (chars text.now) refusal.place) }
+    ensures sentence { IfOk result (λ e. is_sentence e.sentence.now ≡ true) }
+    ensures suggestion { IfOk result (λ e.
+        IfSome e.suggestion (λ text. IsSuggestedExpression profile (chars (string_bytes text)))) }
+{
+    let (query, within) = as_query(alloc, text, refusal)?;
+    let suggestion = expression_suggestion(alloc, query.as_str(), profile, within)?;
+    let reason = reason_at(alloc, query.as_str(), within)?;
+    placed(alloc, text, refusal.place, reason, suggestion)
+}
+
+/// The reason for which a query's text is refused.
+fn reason_at(alloc: Global, text: &str, refusal: Refusal) -> Result<Reason, AllocError> {
     let characters = characters(alloc, text)?;
     let (front, rest) = split_at_byte(&characters, refusal.place);
+    Ok(reason_of(refusal.kind, front, rest))
+}
+
+/// What is told of that byte of the text, for the reason.
+fn placed(
+    alloc: Global,
+    text: &str,
+    place: usize,
+    reason: Reason,
+    suggestion: Option<String>,
+) -> Result<Explanation, AllocError>
+    ensures place { IfOk result (IsPlacedAt (chars text.now) place) }
+    ensures sentence { IfOk result (λ e. is_sentence e.sentence.now ≡ true) }
+    ensures suggestion { IfOk result (λ e. e.suggestion ≡ suggestion) }
+{
+    let characters = characters(alloc, text)?;
+    let (front, rest) = split_at_byte(&characters, place);
     let line = line_before(front, rest);
     let before = show(alloc, line)?;
     let after = show(alloc, line_after(rest))?;
@@ -67,7 +114,8 @@ pub fn explain(
         column: line.len() + 1,
         width_before: before.as_str().width(),
         line: joined(alloc, before.as_str(), after.as_str())?,
-        reason: reason_of(refusal.kind, front, rest),
+        reason,
+        sentence: reason.sentence(),
         suggestion,
     })
 }

@@ -2,9 +2,9 @@
 
 ghost use Rattle.std.specs.Prelude.{◌≡◌, ◌==◌};
 ghost use Rattle.std.specs.List.{count_by};
-ghost use Rattle.jp_explain.specs.Marks.{is, begins, ends, begins_in, ends_in, begins_as, ends_as};
-ghost use Rattle.jp_explain.specs.Marks.{ends_in_one, has_more, is_inside, is_odd, without_first, without_last, stem, name_at};
-ghost use Rattle.jp_explain.specs.Marks.{last_name, without_name, before_name};
+ghost use Rattle.jp_explain.specs.Private.Marks.{is, begins, ends, begins_in, ends_in, begins_as, ends_as};
+ghost use Rattle.jp_explain.specs.Private.Marks.{ends_in_one, has_more, is_inside, is_odd, without_first, without_last, stem, name_at};
+ghost use Rattle.jp_explain.specs.Private.Marks.{last_name, without_name, before_name, is_quoted};
 ghost use Rattle.jp_reading.specs.Texts.{is_among};
 
 use crate::class::{Class, split_prefix, split_suffix};
@@ -120,10 +120,17 @@ pub(crate) fn is_inside(text: &[char]) -> bool
 }
 
 /// Whether the text has the sign an odd number of times.
-pub(crate) fn is_odd(text: &[char], sign: &str) -> bool
+fn is_odd(text: &[char], sign: &str) -> bool
     ensures { result ≡ is_odd text.now sign.now }
 {
     count(text, sign) % 2 == 1
+}
+
+/// Whether the text has an odd number of either quotation mark.
+pub(crate) fn is_quoted(text: &[char]) -> bool
+    ensures { result ≡ is_quoted text.now }
+{
+    is_odd(text, "'") || is_odd(text, "\"")
 }
 
 /// The text without its first character.

@@ -13,6 +13,7 @@ mod cuts;
 mod ends;
 mod names;
 mod numbers;
+mod operators;
 mod signs;
 mod starts;
 mod words;
@@ -50,6 +51,9 @@ pub(crate) fn mended(alloc: Global, reason: Reason, cut: Cut<'_>) -> Mended {
         return Ok(Some(text));
     }
     if let Some(text) = words::mended(alloc, reason, cut)? {
+        return Ok(Some(text));
+    }
+    if let Some(text) = operators::mended(alloc, reason, cut)? {
         return Ok(Some(text));
     }
     if let Some(text) = names::mended(alloc, reason, cut)? {

@@ -1,7 +1,7 @@
 //! The reasons for which queries are refused, and the sentence for each.
 
-ghost use Rattle.std.specs.Prelude.{◌≡◌};
-ghost use Rattle.jp_explain.specs.Sentences.{sentence_of};
+ghost use Rattle.std.specs.Prelude.{◌≡◌, true};
+ghost use Rattle.jp_reading.specs.Sentences.{is_sentence};
 
 /// What is wrong with a query at the place of its refusal, as far as what is there tells.
 #[derive(Clone, Copy, Debug, PartialEq, Eq)]
@@ -12,6 +12,8 @@ pub enum Reason {
     BlankFirst,
     /// A digit where `$` is wanted: what a shell leaves of `"$[0]"`.
     ShellNumber,
+    /// The name of a file where the query is wanted.
+    FileName,
     /// A dot where `$` is wanted: jq's form, or what a shell leaves of `"$x.b"`.
     ShellDot,
     /// `@` where `$` is wanted.
@@ -20,6 +22,8 @@ pub enum Reason {
     Braces,
     /// Quotation marks around the query.
     Quoted,
+    /// jq's `//`, with a default behind it.
+    Alternative,
     /// A slash between names.
     Slash,
     /// Anything else where `$` is wanted.
@@ -28,6 +32,8 @@ pub enum Reason {
     BlankLast,
     /// The end, within brackets, where they may be closed or in a text between quotation marks.
     Unclosed,
+    /// A backslash between quotation marks, with what no escape has after it.
+    Escape,
     /// A control character between quotation marks.
     ControlCharacter,
     /// An invisible character, or a no-break space.
@@ -42,6 +48,8 @@ pub enum Reason {
     Equals,
     /// `<>`.
     Unequal,
+    /// `.5`.
+    DotNumber,
     /// `last()` or a script such as `(@.length-1)` in brackets.
     LastItem,
     /// A name without quotes in brackets.
@@ -52,6 +60,8 @@ pub enum Reason {
     Or,
     /// `not`.
     Not,
+    /// `0x8`.
+    BaseTen,
     /// `True`, `None` and the like.
     Literal,
     /// `undefined`.
@@ -86,6 +96,8 @@ pub enum Reason {
     Pipe,
     /// `,` outside of brackets.
     Union,
+    /// `@property` and the like.
+    OwnName,
     /// A name right after `$`, `@` or `]`.
     MissingDot,
     /// A name after a blank.
@@ -94,20 +106,42 @@ pub enum Reason {
     InnerQuote,
     /// `]` without its `[`.
     StrayBracket,
+    /// `1,000`.
+    Thousands,
     /// A digit after a `0` that begins a number.
     LeadingZero,
     /// `+` before a number.
     Plus,
     /// `-0` as an index.
     MinusZero,
+    /// `-` before something else than a number.
+    LoneMinus,
     /// `1.0`, `1e3`, `0..2` or `0-2` in brackets.
     IndexForm,
     /// A sign of arithmetic in a filter.
     Arithmetic,
     /// `in` where an operator is wanted.
     Among,
+    /// `nin` or `not in`.
+    NotAmong,
+    /// `anyof`.
+    AnyOf,
+    /// `between`.
+    Between,
+    /// `contains`.
+    Contains,
+    /// `startsWith`, `endsWith` and the like.
+    Affix,
+    /// `like`.
+    Like,
+    /// `matches` and the like.
+    Matches,
     /// Another word where an operator is wanted.
     Operator,
+    /// `;` in brackets.
+    Semicolon,
+    /// `?` after something else than `[` or a comma in brackets.
+    Ternary,
     /// `**`.
     DoubleStar,
     /// `^` or `~` after a path.
@@ -175,12 +209,15 @@ pub enum Reason {
 impl Reason {
     /// The sentence for whoever typed the query, in ASCII and on one line.
     pub fn sentence(self) -> &'static str
-        ensures { result.now ≡ sentence_of self }
+        ensures { is_sentence result.now ≡ true }
     {
         match self {
             Reason::Empty => "The query is empty: `$` alone selects the whole document.",
             Reason::BlankFirst => {
                 "A query begins with `$`: no blank, newline or invisible character may stand before it."
+            },
+            Reason::FileName => {
+                "A query begins with `$`, and stands before the names of files."
             },
             Reason::ShellNumber => {
                 "A query begins with `$`; the shell makes a number of \"$[0]\", so put the query in single quotes."
@@ -195,6 +232,9 @@ impl Reason {
             Reason::Quoted => {
                 "A query begins with `$`: quotation marks around it are for the shell, and no part of it."
             },
+            Reason::Alternative => {
+                "There is no `//` with a default: a path to nothing selects nothing."
+            },
             Reason::Slash => {
                 "Names are separated by dots or stand in brackets: there are no slashes between them."
             },
@@ -204,6 +244,9 @@ impl Reason {
             },
             Reason::Unclosed => {
                 "The query ends before a bracket, a parenthesis or a quotation mark is closed."
+            },
+            Reason::Escape => {
+                "In quotes a backslash is written `\\\\`: other escapes are \\b, \\f, \\n, \\r, \\t, \\u and four digits, and \\/."
             },
             Reason::ControlCharacter => {
                 "A control character in quotes is written as an escape, such as \\n or \\u001b."
@@ -216,6 +259,7 @@ impl Reason {
             },
             Reason::Equals => "Values are compared with `==` and `!=`.",
             Reason::Unequal => "`<>` is written `!=`.",
+            Reason::DotNumber => "A number does not begin with a dot.",
             Reason::LastItem => "A negative index counts from the end: `[-1]` is the last item.",
             Reason::BracketName => {
                 "A name in brackets needs quotes (inside the shell's single quotes, double ones)."
@@ -223,6 +267,7 @@ impl Reason {
             Reason::And => "`and` is written `&&`.",
             Reason::Or => "`or` is written `||`.",
             Reason::Not => "`not` is written `!`.",
+            Reason::BaseTen => "Numbers are written in base ten, such as 16 for 0x10.",
             Reason::Literal => "The literals are written `true`, `false` and `null`.",
             Reason::Undefined => {
                 "Whether there is such a member is tested by `@.name` or `!@.name` alone."
@@ -256,15 +301,20 @@ impl Reason {
             Reason::Union => {
                 "A query is one path: several names or indexes stand in one pair of brackets, as in `[\"a\", \"b\"]`."
             },
+            Reason::OwnName => {
+                "`@` is a value, of which neither its own name nor its path nor its parent is known."
+            },
             Reason::MissingDot => "A name needs a dot before it.",
             Reason::BlankName => "A name with a blank in it stands in quotes and brackets.",
             Reason::InnerQuote => {
                 "The quotation mark before this ends the text: one is missing, or this one needs `\\` before it."
             }
             Reason::StrayBracket => "This `]` closes nothing.",
+            Reason::Thousands => "No comma stands between the digits of a number.",
             Reason::LeadingZero => "A number does not begin with `0`, unless it is 0.",
             Reason::Plus => "A number has no `+` before it.",
             Reason::MinusZero => "The index 0 has no `-` before it.",
+            Reason::LoneMinus => "A number comes right after a `-`.",
             Reason::IndexForm => {
                 "An index is a whole number, and a slice is written `[0:2]`, which selects the items 0 and 1."
             },
@@ -274,8 +324,35 @@ impl Reason {
             Reason::Among => {
                 "`in` is written as comparisons, such as `@.name == 1 || @.name == 2`."
             }
+            Reason::NotAmong => {
+                "`nin` and `not in` are written as comparisons, such as `@.name != 1 && @.name != 2`."
+            },
+            Reason::AnyOf => {
+                "Whether an array has one of some items is tested by `@.name[?@ == 1 || @ == 2]`."
+            },
+            Reason::Between => {
+                "`between` is written as two comparisons, such as `@.name >= 1 && @.name <= 5`."
+            },
+            Reason::Contains => {
+                "Whether a text has a part is tested by search(@.name, \"..\"), and whether an array has an item by `@.name[?@ == 1]`."
+            },
+            Reason::Affix => {
+                "How a text begins is tested by match(@.name, \"begin.*\"), and how it ends by match(@.name, \".*end\")."
+            },
+            Reason::Like => {
+                "`like` is written match(@.name, \"..\"), with `.*` in place of `%` and `.` in place of `_`."
+            },
+            Reason::Matches => {
+                "A pattern is tested by match(@.name, \"..\") on the whole text, and by search(@.name, \"..\") on any part of it."
+            },
             Reason::Operator => {
                 "There is no such operator: there are ==, !=, <, <=, >, >=, &&, || and !."
+            },
+            Reason::Semicolon => {
+                "No semicolon stands in brackets: selectors have commas between them, and a slice has colons."
+            },
+            Reason::Ternary => {
+                "A `?` stands only where a filter begins: there is no `? :`, and no default behind `??`."
             },
             Reason::DoubleStar => "Any number of steps down is written `..`.",
             Reason::NoWayUp => {

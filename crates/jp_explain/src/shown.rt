@@ -1,6 +1,7 @@
 //! How a text is shown in one line of a terminal.
 
 ghost use Rattle.std.specs.Prelude.{◌≡◌, ◌<◌, ◌++◌, true, IfOk, OnOk, string_bytes};
+ghost use Rattle.std.specs.List.{list_any};
 ghost use Rattle.std.specs.Str.{chars};
 ghost use Rattle.jp_explain.specs.Shown.{is_hidden, hex_digit, number_shown, shown, shown_character};
 
@@ -24,6 +25,13 @@ pub(crate) fn is_hidden(c: char) -> bool
             | '\u{2060}'..='\u{206f}'
             | '\u{feff}'
     )
+}
+
+/// Whether a terminal may not show some character of the text.
+pub(crate) fn has_hidden(text: &[char]) -> bool
+    ensures { result ≡ list_any is_hidden text.now }
+{
+    text.iter().any(|c| is_hidden(*c))
 }
 
 /// A lower case hex digit.

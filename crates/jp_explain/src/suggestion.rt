@@ -1,14 +1,18 @@
 //! Suggestions: queries that are accepted.
 
-ghost use Rattle.std.specs.Prelude.{IfOk, IfSome, string_bytes};
+ghost use Rattle.std.specs.Prelude.{◌≡◌, false, IfOk, IfSome, string_bytes};
+ghost use Rattle.std.specs.List.{list_any};
 ghost use Rattle.std.specs.Str.{chars};
-ghost use Rattle.jp_explain.specs.Suggestion.{IsQuery};
+ghost use Rattle.jp_explain.specs.Shown.{is_hidden};
+ghost use Rattle.jp_explain.specs.Suggestion.{IsQuery, IsSuggested};
 ghost use Rattle.jp_explain.specs.Private.Attempts.{IsSound};
 
 use crate::mends::{Cut, mended};
 use crate::place::{characters, split_at_byte};
 use crate::reasons::reason_of;
-use jp_check::{Profile, read_query};
+use crate::shown::{has_hidden, show};
+use jp_canon::canon;
+use jp_check::{Checked, Profile, read_query};
 use jp_query::{Refusal, RefusalKind};
 use std::alloc::{AllocError, Global};
 
@@ -18,7 +22,7 @@ const ROUNDS: u32 = 8;
 /// What reading a mended text comes to.
 #[derive(Drop)]
 enum Attempt {
-    /// It is accepted.
+    /// It is accepted, and this is how it is told.
     Query(String),
     /// It is refused.
     Refused(String, Refusal),
@@ -36,7 +40,7 @@ pub(crate) fn suggestion(
     refusal: Refusal,
 ) -> Result<Option<String>, AllocError>
     ensures { IfOk result
-        (λ found. IfSome found (λ query. IsQuery profile (chars (string_bytes query)))) }
+        (λ found. IfSome found (λ query. IsSuggested profile (chars (string_bytes query)))) }
 {
     let mut attempt = attempted(alloc, text, profile, refusal)?;
     for _ in 1..ROUNDS {
@@ -74,8 +78,41 @@ fn read(alloc: Global, text: String, profile: Profile) -> Result<Attempt, AllocE
     ensures { IfOk result (IsSound profile) }
 {
     match read_query(alloc, text.as_str(), profile) {
-        Ok(_) => Ok(Attempt::Query(text)),
+        Ok(query) => plain(alloc, text, &query, profile),
         Err(refusal) if refusal.kind == RefusalKind::NoMemory => Err(AllocError),
         Err(refusal) => Ok(Attempt::Refused(text, refusal)),
+    }
+}
+
+/// The text of a query as it is, or where a character of it would not be shown, its canonical text, with such
+/// characters in quotes as escapes, if that is accepted.
+fn plain(
+    alloc: Global,
+    text: String,
+    query: &Checked,
+    profile: Profile,
+) -> Result<Attempt, AllocError>
+    requires { IsQuery profile (chars (string_bytes text)) }
+    ensures { IfOk result (IsSound profile) }
+{
+    if !has_hidden(&characters(alloc, text.as_str())?) {
+        return Ok(Attempt::Query(text));
+    }
+    let canonical = canon(alloc, query)?;
+    let shown = show(alloc, &characters(alloc, canonical.as_str())?)?;
+    reread(alloc, shown, profile)
+}
+
+/// The text, if it is accepted and each character of it is shown.
+fn reread(alloc: Global, text: String, profile: Profile) -> Result<Attempt, AllocError>
+    ensures { IfOk result (IsSound profile) }
+{
+    if has_hidden(&characters(alloc, text.as_str())?) {
+        return Ok(Attempt::Nothing);
+    }
+    match read_query(alloc, text.as_str(), profile) {
+        Ok(_) => Ok(Attempt::Query(text)),
+        Err(refusal) if refusal.kind == RefusalKind::NoMemory => Err(AllocError),
+        Err(_) => Ok(Attempt::Nothing),
     }
 }

@@ -5,8 +5,6 @@ ghost use Rattle.std.specs.Str.{chars};
 ghost use Rattle.jp_explain.specs.Explanation.{explanation_text, suggestion_text};
 
 use crate::explanation::Explanation;
-use crate::place::characters;
-use crate::shown::show;
 use crate::written::{write_spaces, write_word};
 use jp_canon::Writer;
 use std::alloc::{AllocError, Global};
@@ -22,8 +20,8 @@ use std::alloc::{AllocError, Global};
 ///
 /// The first is the line of the query that holds the place, as it is shown, after two spaces; below
 /// the character at the place stands a caret, by the columns of a terminal; then the sentence for the
-/// reason; and, if there is one, the suggestion, shown as the line is, so that no control character of
-/// the query reaches a terminal. The only error is that memory ran out.
+/// reason; and, if there is one, the suggestion. No control character of the query reaches a terminal: the
+/// line is shown without, and a suggestion of `explain` has none. The only error is that memory ran out.
 pub fn explanation_text(alloc: Global, explanation: &Explanation) -> Result<String, AllocError>
     ensures { IfOk result (λ text. chars (string_bytes text) ≡ explanation_text explanation.now) }
 {
@@ -33,26 +31,20 @@ pub fn explanation_text(alloc: Global, explanation: &Explanation) -> Result<Stri
     write_word(&mut out, "\n  ")?;
     write_spaces(&mut out, explanation.width_before)?;
     write_word(&mut out, "^\n")?;
-    write_word(&mut out, explanation.reason.sentence())?;
+    out.text(explanation.sentence)?;
     write_word(&mut out, "\n")?;
-    write_suggestion(alloc, &mut out, &explanation.suggestion)?;
+    write_suggestion(&mut out, &explanation.suggestion)?;
     Ok(out.into_text())
 }
 
 /// Writes the line of the suggestion, if there is one.
-fn write_suggestion(
-    alloc: Global,
-    out: &mut Writer,
-    suggestion: &Option<String>,
-) -> Result<(), AllocError>
+fn write_suggestion(out: &mut Writer, suggestion: &Option<String>) -> Result<(), AllocError>
     ensures { OnOk result (out.new ≡ out.old ++ suggestion_text suggestion.now) }
 {
     let Some(query) = suggestion else {
         return Ok(());
     };
-    let characters = characters(alloc, query.as_str())?;
-    let shown = show(alloc, &characters)?;
     write_word(out, "Try: ")?;
-    out.text(shown.as_str())?;
+    out.text(query.as_str())?;
     write_word(out, "\n")
 }

@@ -24,10 +24,10 @@ pub members_lone : (depth : ℕ) (initial ts a r e : List Token) (t s w u v : Sh
     (rises : Bool) (old all : List Named) (name : List ℕ) (m : Named) (i : Item)
     → read_key ts ≡ Some (Some name, a) → length r < length ts → ReadsFlat depth a r u m.item
     → text_at w m.name ≡ Some name → Grows s w → Grows w u → read_key r ≡ Some (None, e)
-    → base ≡ length all → IsObjectOf (m ∷ []) u v i
+    → base ≡ length all → IsObjectOf (m ∷ []) u v i → Grows u v
     → MembersSoFar depth initial ts t s base rises old all → ReadsFlatMembers depth initial e v i
 members_lone depth initial ts a r e t s w u v base rises old all name m i key less x at one two over
-    alone closed so =
+    alone closed three so =
     members_end depth initial r e t u v base false old (all ++ m ∷ []) i over
     (λ n ms rise is.
     let this : all_of (member_with (flat_value n u) u) (m ∷ []) ≡ Some ms =
@@ -35,7 +35,7 @@ members_lone depth initial ts a r e t s w u v base rises old all name m i key le
     (cut_back base all (m ∷ []) (all ++ m ∷ []) refl alone) is in
     closed n ms this
     ∙ ap (λ ws. Some (object (members_of ws)))
-    (sym (put-one (member_with (flat_value n u) u) m ms this)))
+    (sym (put-one (member_with (flat_value n u) u) m ms this))) three
     (members_more depth initial ts a r t s w u base rises false old all name m key less x at one two
     (λ never. absurd (cc)) (λ never. absurd (cc)) so)
 

@@ -14,26 +14,29 @@ use Rattle.jp_document.specs.Value.{object}
 use Rattle.jp_document.proofs.Members.ByName.{bytes_cmp}
 use Rattle.jp_document.proofs.Members.Inserting.{through}
 use Rattle.jp_document.proofs.Options.{some_from_both, some_from_map, some_from_then}
-use Rattle.jp_flat.specs.OfJson.{items_of_json, members_of_json, value_of_json}
+use Rattle.jp_document.specs.OfJson.{items_of_json, members_of_json, value_of_json}
 use Rattle.jp_flat.specs.Private.FromTokens.{ReadsText}
-use Rattle.jp_flat.specs.Private.Integer.{whole_number}
+use Rattle.jp_document.specs.NumberTexts.{whole_number}
 
 -- ---- members with the data that is read of them
 
-pub record ReadMember : Type 0 where
+pub record ReadMember (R : Data → Value → Type 0) : Type 0 where
   pub name : List ℕ
   pub reading : Data
   pub value : Value
-  pub holds : value_of_data reading ≡ Some value
+  pub holds : R reading value
 
-abbrev pub pair : ReadMember → List ℕ × Value
+abbrev Holds : Data → Value → Type 0
+Holds d v = value_of_data d ≡ Some v
+
+abbrev pub pair : {R : Data → Value → Type 0} → ReadMember R → List ℕ × Value
 pair e = (e.name, e.value)
 
-abbrev pub data_of : List ReadMember → parsed.Members
+abbrev pub data_of : {R : Data → Value → Type 0} → List (ReadMember R) → parsed.Members
 data_of [] = parsed.no_members
 data_of (e ∷ es) = parsed.member e.name e.reading (data_of es)
 
-pub members_of_data-entries : (es : List ReadMember)
+pub members_of_data-entries : (es : List (ReadMember Holds))
     → members_of_data (data_of es) ≡ Some (members_of (map pair es))
 members_of_data-entries [] = refl
 members_of_data-entries (e ∷ es) =
@@ -41,22 +44,23 @@ members_of_data-entries (e ∷ es) =
     ∙ ap (option_map (member e.name e.value)) (members_of_data-entries es)
 
 -- the same entry under a name of equal bytes
-abbrev renamed : List ℕ → ReadMember → ReadMember
+abbrev renamed : {R : Data → Value → Type 0} → List ℕ → ReadMember R → ReadMember R
 renamed n x = record { name = n; reading = x.reading; value = x.value; holds = x.holds }
 
-abbrev pub put_entry : ReadMember → List ReadMember → List ReadMember
+abbrev pub put_entry : {R : Data → Value → Type 0} → ReadMember R → List (ReadMember R)
+    → List (ReadMember R)
 put_entry x [] = x ∷ []
 put_entry x (e ∷ es) =
     match_ordering (bytes_cmp x.name e.name) (x ∷ e ∷ es) (renamed e.name x ∷ es)
     (e ∷ put_entry x es)
 
-pub data_of-put_entry : (x : ReadMember) (es : List ReadMember)
+pub data_of-put_entry : {R : Data → Value → Type 0} (x : ReadMember R) (es : List (ReadMember R))
     → data_of (put_entry x es) ≡ put x.name x.reading (data_of es)
 data_of-put_entry x [] = refl
 data_of-put_entry x (e ∷ es) =
     through data_of (bytes_cmp x.name e.name) _ _ _ ∙ rw (data_of-put_entry x es)
 
-pub pairs-put_entry : (x : ReadMember) (es : List ReadMember)
+pub pairs-put_entry : {R : Data → Value → Type 0} (x : ReadMember R) (es : List (ReadMember R))
     → map pair (put_entry x es) ≡ insert_entry bytes_cmp (map pair es) x.name x.value
 pairs-put_entry x [] = refl
 pairs-put_entry x (e ∷ es) =
@@ -109,16 +113,16 @@ mutual
             ∙ ap (option_map (item parts.0)) ds.2 ∙ ap Some parts.4,
       )
 
-  members-data : (js : json.Members) (es : List ReadMember) (ms : List (List ℕ × Value))
+  members-data : (js : json.Members) (es : List (ReadMember Holds)) (ms : List (List ℕ × Value))
       → members_of_json whole_number js (map pair es) ≡ Some ms
-      → (fs : List ReadMember) × (of_members js (data_of es) ≡ Some (data_of fs)) × (ms ≡ map pair fs)
+      → (fs : List (ReadMember Holds)) × (of_members js (data_of es) ≡ Some (data_of fs)) × (ms ≡ map pair fs)
   members-data json.no_members es ms is = (es, refl, sym (same_Some (map pair es) ms is))
   members-data (json.member k j js) es ms is =
       let v = some_from_then
       (λ v. members_of_json whole_number js (insert_entry bytes_cmp (map pair es) k v))
       (value_of_json whole_number j) ms is in
       let d = has-data j v.0 v.1 in
-      let e : ReadMember = record { name = k; reading = d.0; value = v.0; holds = d.2 } in
+      let e : ReadMember Holds = record { name = k; reading = d.0; value = v.0; holds = d.2 } in
       let fs = members-data js (put_entry e es) ms
       (ap (members_of_json whole_number js) (pairs-put_entry e es) ∙ v.2) in (
         fs.0,

@@ -1,5 +1,5 @@
 -- What the first token of a value tells of it: for the values that are kept as they are.
-use Rattle.std.proofs.Common.{◌≡◌, ◌∷◌, ◌∙◌, [], ℕ, List, Option, Some, None, ap, refl, sym}
+use Rattle.std.proofs.Common.{Bool, true, false, ◌≡◌, ◌∷◌, ◌∙◌, [], ℕ, List, Option, Some, None, ap, refl, sym}
 use Rattle.std.proofs.lemmas.Option.{same_Some}
 use Rattle.json.specs.Json as json
 use Rattle.json.specs.Json.{value}
@@ -8,9 +8,12 @@ use Rattle.json.proofs.Grammar.{value_is}
 use Rattle.serde_json.specs.Data as parsed
 use Rattle.serde_json.specs.Read.{number_of}
 use Rattle.jp_document.specs.Document.{value_of_data}
-use Rattle.jp_flat.specs.OfJson.{items_of_json, members_of_json, value_of_json}
-use Rattle.jp_flat.specs.Private.Integer.{whole_number}
-use Rattle.jp_document.specs.Value.{Value, list, members_of, object}
+use Rattle.jp_document.specs.OfJson.{items_of_json, members_of_json, value_of_json}
+use Rattle.jp_decimal.specs.TextValue.{value_of_text}
+use Rattle.jp_document.specs.NumberValue.{number_value}
+use Rattle.jp_document.specs.NumberTexts.{numbers_of, whole_number}
+use Rattle.jp_document.proofs.NumberValues.{number-always}
+use Rattle.jp_document.specs.Value.{Value, list, members_of, null, object}
 use Rattle.jp_document.proofs.Options.{some_from_map, some_from_then}
 use Rattle.jp_flat.specs.Private.FromTokens.{ReadsValue}
 use Rattle.json.specs.Lex.{string_token}
@@ -52,18 +55,26 @@ sort-whole s v is =
     let n = some_from_then (λ n. value_of_data (parsed.number n)) (number_of s) v is in
     sort-number n.0 v n.2
 
-sort-json : (j : json.Json) (v : Value) → value_of_json whole_number j ≡ Some v
-    → sort_of v ≡ json_sort j
-sort-json json.null v is = ap sort_of (sym (same_Some _ v is))
-sort-json (json.boolean b) v is = ap sort_of (sym (same_Some _ v is))
-sort-json (json.number s) v is = sort-whole s v is
-sort-json (json.string s) v is = ap sort_of (sym (same_Some _ v is))
-sort-json (json.array js) v is =
-    let h = some_from_map list (items_of_json whole_number js) v is in ap sort_of (sym h.2)
-sort-json (json.object ms) v is =
-    let h = some_from_map (λ found. object (members_of found))
-    (members_of_json whole_number ms []) v is in
-    ap sort_of (sym h.2)
+pub sort-number_of : (b : Bool) (s : List ℕ) (v : Value) → numbers_of b s ≡ Some v
+    → sort_of v ≡ other
+sort-number_of false s v is = sort-whole s v is
+sort-number_of true s v is =
+    ap sort_of (sym (same_Some (number_value (value_of_text s)) v is))
+    ∙ number-always sort_of (λ z fits. refl) (λ c e. refl) (value_of_text s)
+
+-- Where numbers are neither.
+module _ (N : List ℕ → Option Value) (leaves : (s : List ℕ) (v : Value) → N s ≡ Some v → sort_of v ≡ other)
+  where
+    sort-json : (j : json.Json) (v : Value) → value_of_json N j ≡ Some v → sort_of v ≡ json_sort j
+    sort-json json.null v is = ap sort_of (sym (same_Some _ v is))
+    sort-json (json.boolean b) v is = ap sort_of (sym (same_Some _ v is))
+    sort-json (json.number s) v is = leaves s v is
+    sort-json (json.string s) v is = ap sort_of (sym (same_Some _ v is))
+    sort-json (json.array js) v is =
+        let h = some_from_map list (items_of_json N js) v is in ap sort_of (sym h.2)
+    sort-json (json.object ms) v is =
+        let h = some_from_map (λ found. object (members_of found)) (members_of_json N ms []) v is in
+        ap sort_of (sym h.2)
 
 sort-parsed : (a : json.Parse json.Items) (o : json.Parse json.Members) (k : spec.Token)
     (ts rest : List spec.Token) (j : json.Json)
@@ -86,11 +97,14 @@ sort-parsed a o spec.null ts rest j is =
 sort-parsed a o spec.bad ts rest j is = absurd (cc)
 
 -- the first token tells the sort of the value
-pub sort-read : (depth : ℕ) (k : spec.Token) (ts rest : List spec.Token) (v : Value)
-    → ReadsValue whole_number depth (k ∷ ts) rest v → sort_of v ≡ token_sort k
-sort-read depth k ts rest v x =
-    let h = parsed_before (value_of_json whole_number) (value depth (k ∷ ts)) v rest x.read in
-    sort-json h.0 v h.2 ∙ sort-parsed _ _ k ts rest h.0 (sym (value_is depth (k ∷ ts)) ∙ h.1)
+pub sort-read : (N : List ℕ → Option Value)
+    → ((s : List ℕ) (v : Value) → N s ≡ Some v → sort_of v ≡ other) → (depth : ℕ) (k : spec.Token)
+    (ts rest : List spec.Token) (v : Value) → ReadsValue N depth (k ∷ ts) rest v
+    → sort_of v ≡ token_sort k
+sort-read N leaves depth k ts rest v x =
+    let h = parsed_before (value_of_json N) (value depth (k ∷ ts)) v rest x.read in
+    sort-json N leaves h.0 v h.2
+    ∙ sort-parsed _ _ k ts rest h.0 (sym (value_is depth (k ∷ ts)) ∙ h.1)
 
 -- ---- tokens that begin no list, and no object
 
@@ -110,6 +124,7 @@ begins-list code.EndObject is = absurd (cc)
 begins-list (code.Key s) is = let sort = sort-key (said s) in absurd (cc)
 begins-list (code.Text s) is = let sort = sort-text (said s) in absurd (cc)
 begins-list (code.Number s n) is = absurd (cc)
+begins-list (code.Numeral first s) is = absurd (cc)
 begins-list (code.Bool b) is = absurd (cc)
 begins-list code.Null is = absurd (cc)
 
@@ -121,5 +136,6 @@ begins-object code.EndObject is = absurd (cc)
 begins-object (code.Key s) is = let sort = sort-key (said s) in absurd (cc)
 begins-object (code.Text s) is = let sort = sort-text (said s) in absurd (cc)
 begins-object (code.Number s n) is = absurd (cc)
+begins-object (code.Numeral first s) is = absurd (cc)
 begins-object (code.Bool b) is = absurd (cc)
 begins-object code.Null is = absurd (cc)

@@ -22,7 +22,7 @@ use Rattle.jp_document.proofs.Descent.Items.{child-nth}
 use Rattle.jp_document.proofs.Descent.Steps.{step_same}
 use Rattle.jp_document.proofs.Members.ByName.{bytes_cmp, child-list_named, child-named}
 use Rattle.jp_document.proofs.Members.ByName.{child-object_nth}
-use Rattle.jp_flat.proofs.Ahead.{MembersAhead, ahead_member, ahead_members_end}
+use Rattle.jp_flat.proofs.Ahead.{MembersAhead, ahead-in, ahead_member, ahead_members_end}
 use Rattle.jp_reading.proofs.Conjunctions.{and-both}
 use Rattle.jp_flat.specs.Flat.{Grows, Shown}
 use Rattle.jp_flat.specs.Private.Found.{FindsAt, FindsItem, FindsMember, IsFoundAs, later, sought_at}
@@ -32,8 +32,8 @@ use Rattle.jp_flat.specs.declared.finding.Sought.{Sought}
 use Rattle.jp_flat.specs.declared.item.Item.{Item}
 use Rattle.jp_flat.proofs.Growth.{flat_deeper, grows_on, grows_same, value_grows}
 use Rattle.jp_flat.proofs.Leaves.{reads_list, reads_object}
-use Rattle.jp_flat.proofs.Loops.{few_fit, values_end, values_more, values_none}
-use Rattle.jp_flat.specs.Private.Integer.{whole_number}
+use Rattle.jp_flat.proofs.Loops.{begins-in, few_fit, values_end, values_more, values_none}
+use Rattle.jp_document.specs.NumberTexts.{numbers_of}
 
 -- ---- what is found stays, in tables that grow and with more levels
 
@@ -113,7 +113,7 @@ has_item vs v (nth i) =
 pub record ItemsFound (depth : ℕ) (initial ts : List Token) (before now : Shown) (s : Option Sought)
     (index : ℕ) (found : Option Item) : Type 0 where
   pub values : List Value
-  pub begins : BeginsValues depth initial ts values
+  pub begins : BeginsValues (numbers_of now.exact) depth initial ts values
   pub shorter : length ts ≤ length initial
   pub at : index ≡ length values
   pub few : index < 2 ^ 32
@@ -145,7 +145,9 @@ pub items_more : (depth : ℕ) (initial ts r : List Token) (t u w : Shown) (s : 
     → ItemsFound depth initial r t w s (index + 1) (later l found item)
 items_more depth initial ts r t u w s index l found item few inside less more x so = record {
   values = so.values ++ x.value ∷ [];
-  begins = values_more depth initial ts r so.values x.value less x.reads x.short so.begins;
+  begins =
+      values_more depth initial ts r so.values x.value less x.reads x.short
+      (begins-in u.exact w.exact depth initial ts so.values more.exact so.begins);
   shorter = omega (arith, so.shorter);
   at = omega (arith, so.at, length-append so.values (x.value ∷ []));
   few = few;
@@ -241,7 +243,7 @@ pub record MembersFound (depth : ℕ) (initial ts : List Token) (before now : Sh
   pub enough : length ts ≤ rounds
   pub shorter : length ts ≤ length initial
   pub members : List (List ℕ × Value)
-  pub ahead : MembersAhead whole_number depth initial rounds ts members
+  pub ahead : MembersAhead (numbers_of now.exact) depth initial rounds ts members
   pub is :
       IsFoundAs depth now (value_sought (option_map whole_location s) (object (members_of members)))
       found
@@ -281,7 +283,8 @@ members_more depth initial ts a r t u w z s name l found item key inside less on
       members = after;
       ahead =
           ahead_member depth initial so.rounds name ts a r so.members x.value
-          (omega (arith, so.enough)) key x.reads x.short so.ahead;
+          (omega (arith, so.enough)) key x.reads x.short
+          (ahead-in u.exact z.exact depth initial so.rounds ts so.members more.exact so.ahead);
       is =
           let old = found_grows depth u z (value_sought whole (object (members_of so.members))) found
           more so.is in
@@ -349,7 +352,7 @@ finds-leaf depth ts r token t i s first leaf =
     let x = leaf depth r t.items in
     record {
       value = x.0.value;
-      reads = subst (λ ks. ReadsValue whole_number depth ks r x.0.value) (sym first) x.0.reads;
+      reads = subst (λ ks. ReadsValue (numbers_of t.exact) depth ks r x.0.value) (sym first) x.0.reads;
       short = x.0.short;
       found = nothing_inside depth t s x.0.value x.1;
     }

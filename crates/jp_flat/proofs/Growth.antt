@@ -9,6 +9,8 @@ use Rattle.std.proofs.lemmas.Bool.{cond-true, leb-true, le-leb}
 use Rattle.std.proofs.lemmas.List.{drop-append-le, length-append, length-take-le}
 use Rattle.std.proofs.lemmas.List.{take-append-drop, take-append-le}
 use Rattle.std.proofs.lemmas.Option.{cond_some, same_Some}
+use Rattle.jp_decimal.specs.TextValue.{value_of_text}
+use Rattle.jp_document.specs.NumberValue.{number_value}
 use Rattle.jp_document.specs.Value.{Value, text, list, object, items_of, members_of}
 use Rattle.jp_document.proofs.Options.{some_from_both, some_from_map, some_from_then}
 use Rattle.jp_flat.specs.Flat.{BeginsWith, Grows, Keeps, Shown, all_of, flat_value, member_with, piece}
@@ -83,6 +85,7 @@ begins_on xs ys zs one two = record {
 
 pub grows_same : (t : Shown) → Grows t t
 grows_same t = record {
+  exact = refl;
   source = refl;
   spare = begins_same t.spare;
   items = begins_same t.items;
@@ -91,6 +94,7 @@ grows_same t = record {
 
 pub grows_on : (t s r : Shown) → Grows t s → Grows s r → Grows t r
 grows_on t s r one two = record {
+  exact = two.exact ∙ one.exact;
   source = two.source ∙ one.source;
   spare = begins_on t.spare s.spare r.spare one.spare two.spare;
   items = begins_on t.items s.items r.items one.items two.items;
@@ -101,6 +105,7 @@ grows_on t s r one two = record {
 pub grows_beside : (t s : Shown) (items : List Item) → Grows t s
     → Grows (with_items t items) (with_items s items)
 grows_beside t s items more = record {
+  exact = more.exact;
   source = more.source;
   spare = more.spare;
   items = begins_same items;
@@ -167,6 +172,9 @@ with_kept f g t s more step code.Null v is = is
 with_kept f g t s more step (code.Bool b) v is = is
 with_kept f g t s more step (code.Above h) v is = is
 with_kept f g t s more step (code.Below h) v is = is
+with_kept f g t s more step (code.Numeral p) v is =
+    let h = some_from_map (λ x. number_value (value_of_text x)) (text_at t p) v is in
+    ap (option_map (λ x. number_value (value_of_text x))) (more.texts p h.0 h.1) ∙ ap Some h.2
 with_kept f g t s more step (code.Text p) v is =
     let h = some_from_map text (text_at t p) v is in
     ap (option_map text) (more.texts p h.0 h.1) ∙ ap Some h.2
@@ -241,6 +249,7 @@ list_from_there s first p within at many = λ n vs all.
     let new = drop first s.items in
     let parts : s.items ≡ t.items ++ new = sym (take-append-drop first s.items) in
     let grown : Grows t s = record {
+      exact = refl;
       source = refl;
       spare = begins_same s.spare;
       items = record { rest = new; is = parts };

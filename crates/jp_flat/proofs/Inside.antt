@@ -3,14 +3,21 @@ use Rattle.std.proofs.Common.{◌≡◌, ◌≤◌, ◌+◌, ℕ, zero, suc, tru
 use Rattle.std.proofs.Common.{Option, Some, None, option_map, option_and_then, is_some, unwrap_or}
 use Rattle.std.proofs.Common.{refl, sym, ap, subst, ◌∙◌, arith, IsUtf8, take, drop, leb}
 use Rattle.std.proofs.Common.{length-drop}
-use Rattle.std.proofs.Common.{Bool, pos, negsuc, ◌⊎◌, inl, inr}
+use Rattle.std.proofs.Common.{Bool, false, pos, negsuc, ◌⊎◌, inl, inr}
 use Rattle.std.specs.BTreeMap.{is_at}
 use Rattle.std.specs.Map.{lookup}
 use Rattle.std.specs.List.{slice_get}
-use Rattle.std.proofs.lemmas.Bool.{leb-true}
+use Rattle.std.proofs.lemmas.Bool.{false≢true, leb-true}
 use Rattle.std.proofs.lemmas.List.{length-map, length-take-le}
-use Rattle.std.proofs.lemmas.Option.{cond_some, same_Some, slice_get-map}
+use Rattle.std.proofs.lemmas.Option.{cond_some, none-some, same_Some, slice_get-map}
 use Rattle.std.proofs.lemmas.Str.{IsUtf8-from_is_utf8}
+use Rattle.jp_decimal.specs.NormalForm.{normal_form}
+use Rattle.jp_decimal.specs.Scaled.{Scaled}
+use Rattle.jp_decimal.specs.TextValue.{value_of_text}
+use Rattle.jp_decimal.specs.declared.number.Number.{Number}
+use Rattle.jp_decimal.specs.declared.number.Number.TheVariants.{Whole, Decimal}
+use Rattle.jp_document.specs.NumberValue.{number_value}
+use Rattle.jp_document.proofs.NumberValues.{held_value, value-held, value-unheld}
 use Rattle.jp_document.specs.Location.{Step, child, entries, items_from, step_cmp, members_by_name}
 use Rattle.jp_document.specs.Location.{named, nth}
 use Rattle.jp_document.specs.Value.{IsDocumentValue, Value, items_of, list, list_length}
@@ -24,10 +31,10 @@ use Rattle.jp_document.proofs.Members.ByName.{child-object_nth}
 use Rattle.jp_document.proofs.Members.TextNames.{IsUtf8-child_named}
 use Rattle.jp_document.proofs.Options.{some_from_both, some_from_map, some_from_then}
 use Rattle.jp_flat.specs.Flat.{Shown, all_of, flat_value, is_flat, meaning, member_with}
-use Rattle.jp_flat.specs.Flat.{most_levels}
+use Rattle.jp_document.specs.OfJson.{most_levels}
 use Rattle.jp_flat.specs.Flat.{number_of, piece, text_at}
 use Rattle.jp_lent.specs.Lending.{bare}
-use Rattle.jp_flat.specs.Private.Parts.{HoldsText, item_at, member_at, name_in}
+use Rattle.jp_flat.specs.Private.Parts.{HoldsText, item_at, member_at, name_in, numeral_at}
 use Rattle.jp_flat.specs.declared.item.Halves.{Halves}
 use Rattle.jp_flat.specs.declared.item.Item.{Item}
 use Rattle.jp_flat.specs.declared.item.Item.TheVariants as code
@@ -335,6 +342,65 @@ text-is t p s sound is =
     let x = text-inside t p sound in
     ap text (same_Some s x.held (is ∙ x.there)) ∙ sym x.is
 
+-- a number by its characters, which can be held
+record NumeralInside (t : Shown) (p : Span) : Type 0 where
+  characters : List ℕ
+  there : text_at t p ≡ Some characters
+  is : number_value (value_of_text characters) ≡ meaning t (code.Numeral p)
+  number : Number
+  held : normal_form (value_of_text characters) ≡ Some number
+
+numeral-inside : (t : Shown) (p : Span) → is_flat t (code.Numeral p) ≡ true → NumeralInside t p
+unfolding flat_value
+numeral-inside t p sound =
+    let h = some_from_map (λ x. number_value (value_of_text x)) (text_at t p)
+    (meaning t (code.Numeral p)) (has_value t (code.Numeral p) sound) in
+    let n = held-of (value_of_text h.0) (normal_form (value_of_text h.0)) refl
+    (subst IsDocumentValue (sym h.2) (flat-valid t (code.Numeral p) sound)) in
+    record { characters = h.0; there = h.1; is = h.2; number = n.0; held = n.1 }
+  where
+    held-of : (x : Scaled) (o : Option Number) → normal_form x ≡ o → IsDocumentValue (number_value x)
+        → (n : Number) × (normal_form x ≡ Some n)
+    held-of x (Some n) is valid = (n, is)
+    held-of x None is valid = absurd (false≢true (sym (value-unheld x is) ∙ valid))
+
+-- what holds of each number that is held
+numeral-bare : {A : Type 0} {a : A} (f : Value → A) (t : Shown) (p : Span)
+    → ((n : Number) → f (held_value n) ≡ a) → is_flat t (code.Numeral p) ≡ true
+    → f (meaning t (code.Numeral p)) ≡ a
+numeral-bare f t p each sound =
+    let x = numeral-inside t p sound in
+    ap f (sym x.is ∙ value-held (value_of_text x.characters) x.number x.held) ∙ each x.number
+
+held-entries : (n : Number) → entries (held_value n) ≡ []
+held-entries (Whole z) = refl
+held-entries (Decimal d) = refl
+
+held-length : (n : Number) → list_length (held_value n) ≡ None
+held-length (Whole z) = refl
+held-length (Decimal d) = refl
+
+held-bare : (n : Number) → bare (held_value n) ≡ held_value n
+held-bare (Whole z) = refl
+held-bare (Decimal d) = refl
+
+pub numeral-is : (t : Shown) (p : Span) (n : Number) → is_flat t (code.Numeral p) ≡ true
+    → Some n ≡ numeral_at t p → held_value n ≡ bare (meaning t (code.Numeral p))
+numeral-is t p n sound is =
+    let x = numeral-inside t p sound in
+    let same : n ≡ x.number =
+    same_Some n x.number
+    (is ∙ ap (option_and_then (λ s. normal_form (value_of_text s))) x.there ∙ x.held) in
+    sym (held-bare n) ∙ ap (λ m. bare (held_value m)) same
+    ∙ ap bare (sym (value-held (value_of_text x.characters) x.number x.held) ∙ x.is)
+
+pub numeral-held : (t : Shown) (p : Span) → is_flat t (code.Numeral p) ≡ true
+    → None ≡ numeral_at t p → ⊥
+numeral-held t p sound none =
+    let x = numeral-inside t p sound in
+    none-some x.number
+    (none ∙ ap (option_and_then (λ s. normal_form (value_of_text s))) x.there ∙ x.held)
+
 pub list-bare : (t : Shown) (p : Span) → is_flat t (code.List p) ≡ true
     → list no_items ≡ bare (meaning t (code.List p))
 list-bare t p sound = sym (ap bare (list_inside t p sound).is)
@@ -349,7 +415,8 @@ object-bare t p sound = sym (ap bare (object_inside t p sound).is)
 abbrev pub IsLeaf : Item → Type 0
 IsLeaf i =
     (i ≡ code.Null) ⊎ (((b : Bool) × (i ≡ code.Bool b)) ⊎ (((h : Halves) × (i ≡ code.Above h)) ⊎
-    (((h : Halves) × (i ≡ code.Below h)) ⊎ ((p : Span) × (i ≡ code.Text p)))))
+    (((h : Halves) × (i ≡ code.Below h)) ⊎
+    (((p : Span) × (i ≡ code.Numeral p)) ⊎ ((p : Span) × (i ≡ code.Text p))))))
 
 pub leaf-entries : (t : Shown) (i : Item) → is_flat t i ≡ true → IsLeaf i → entries (meaning t i) ≡ []
 leaf-entries t i sound (inl e) = ap (λ j. entries (meaning t j)) e ∙ ap entries (null-is t)
@@ -359,7 +426,10 @@ leaf-entries t i sound (inr (inr (inl e))) =
     ap (λ j. entries (meaning t j)) e.1 ∙ ap entries (above-is t e.0)
 leaf-entries t i sound (inr (inr (inr (inl e)))) =
     ap (λ j. entries (meaning t j)) e.1 ∙ ap entries (below-is t e.0)
-leaf-entries t i sound (inr (inr (inr (inr e)))) =
+leaf-entries t i sound (inr (inr (inr (inr (inl e))))) =
+    ap (λ j. entries (meaning t j)) e.1
+    ∙ numeral-bare entries t e.0 (λ n. held-entries n) (subst (λ j. is_flat t j ≡ true) e.1 sound)
+leaf-entries t i sound (inr (inr (inr (inr (inr e))))) =
     ap (λ j. entries (meaning t j)) e.1
     ∙ ap entries (text-inside t e.0 (subst (λ j. is_flat t j ≡ true) e.1 sound)).is
 
@@ -367,8 +437,8 @@ leaf-entries t i sound (inr (inr (inr (inr e)))) =
 abbrev pub IsLeafOr : (Span → Item) → Item → Type 0
 IsLeafOr sort i =
     (i ≡ code.Null) ⊎ (((b : Bool) × (i ≡ code.Bool b)) ⊎ (((h : Halves) × (i ≡ code.Above h)) ⊎
-    (((h : Halves) × (i ≡ code.Below h)) ⊎ (((p : Span) × (i ≡ code.Text p)) ⊎
-    ((p : Span) × (i ≡ sort p))))))
+    (((h : Halves) × (i ≡ code.Below h)) ⊎ (((p : Span) × (i ≡ code.Numeral p)) ⊎
+    (((p : Span) × (i ≡ code.Text p)) ⊎ ((p : Span) × (i ≡ sort p)))))))
 
 leaf-or : (sort : Span → Item) (i : Item) → IsLeafOr sort i
     → IsLeaf i ⊎ ((p : Span) × (i ≡ sort p))
@@ -376,8 +446,9 @@ leaf-or sort i (inl e) = inl (inl e)
 leaf-or sort i (inr (inl e)) = inl (inr (inl e))
 leaf-or sort i (inr (inr (inl e))) = inl (inr (inr (inl e)))
 leaf-or sort i (inr (inr (inr (inl e)))) = inl (inr (inr (inr (inl e))))
-leaf-or sort i (inr (inr (inr (inr (inl e))))) = inl (inr (inr (inr (inr e))))
-leaf-or sort i (inr (inr (inr (inr (inr e))))) = inr e
+leaf-or sort i (inr (inr (inr (inr (inl e))))) = inl (inr (inr (inr (inr (inl e)))))
+leaf-or sort i (inr (inr (inr (inr (inr (inl e)))))) = inl (inr (inr (inr (inr (inr e)))))
+leaf-or sort i (inr (inr (inr (inr (inr (inr e)))))) = inr e
 
 pub no-item : (t : Shown) (i : Item) (k : ℕ) → is_flat t i ≡ true → IsLeafOr code.Members i
     → child (meaning t i) (nth k) ≡ None
@@ -410,7 +481,10 @@ leaf-length t i sound (inr (inr (inl e))) =
     ap (λ j. list_length (meaning t j)) e.1 ∙ ap list_length (above-is t e.0)
 leaf-length t i sound (inr (inr (inr (inl e)))) =
     ap (λ j. list_length (meaning t j)) e.1 ∙ ap list_length (below-is t e.0)
-leaf-length t i sound (inr (inr (inr (inr e)))) =
+leaf-length t i sound (inr (inr (inr (inr (inl e))))) =
+    ap (λ j. list_length (meaning t j)) e.1
+    ∙ numeral-bare list_length t e.0 (λ n. held-length n) (subst (λ j. is_flat t j ≡ true) e.1 sound)
+leaf-length t i sound (inr (inr (inr (inr (inr e))))) =
     ap (λ j. list_length (meaning t j)) e.1
     ∙ ap list_length (text-inside t e.0 (subst (λ j. is_flat t j ≡ true) e.1 sound)).is
 

@@ -1,11 +1,14 @@
 -- What is kept of a whole text that is a document: for `Room::read_asked`.
-use Rattle.std.proofs.Common.{◌≡◌, ℕ, true, List, [], IsUtf8, inl, inr, is_some, refl, sym, ap, subst}
+use Rattle.std.proofs.Common.{◌≡◌, ℕ, true, false, List, [], IsUtf8, inl, inr, is_some, refl, sym, ap, subst}
 use Rattle.std.proofs.Common.{string_bytes, unwrap_or, ◌∙◌}
 use Rattle.json.specs.Lex.{tokens}
 use Rattle.jp_document.specs.Value.{IsDocumentValue, Value, null}
 use Rattle.jp_reading.proofs.Conjunctions.{and-both}
 use Rattle.jp_flat.specs.Asked.{IsKept, IsReadFor, IsThinned, is_listed}
-use Rattle.jp_flat.specs.Flat.{Shown, is_flat, meaning, most_levels, shown}
+use Rattle.jp_flat.specs.Flat.{Shown, is_flat, meaning, shown}
+use Rattle.jp_document.specs.OfJson.{most_levels}
+use Rattle.jp_document.specs.NumberTexts.{numbers_of, whole_number}
+use Rattle.jp_flat.specs.Private.FromTokens.{ReadsText}
 use Rattle.jp_flat.specs.Private.Kept.{KeepsFlat, KeepsFlatText}
 use Rattle.jp_flat.specs.declared.asked.AskedFor.{AskedFor}
 use Rattle.jp_flat.specs.declared.asked.AskedFor.TheVariants.{Anywhere, OfItems, OfRoot}
@@ -48,19 +51,28 @@ meaning-kept : (asked : AskedFor) (bytes : List ℕ) (t : Shown) (i : Item)
     (x : KeepsFlatText asked bytes t i) → meaning t i ≡ x.kept
 meaning-kept asked bytes t i x = ap (λ o. unwrap_or o null) x.means
 
-pub kept-sound : (asked : AskedFor) (bytes : List ℕ) (t : Shown) (i : Item) → IsUtf8 bytes
+kept-whole_numbers : (asked : AskedFor) (bytes : List ℕ) (t : Shown) (i : Item) → t.exact ≡ false
+    → (x : KeepsFlatText asked bytes t i) → ReadsText whole_number bytes x.value
+kept-whole_numbers asked bytes t i whole x =
+    subst (λ e. ReadsText (numbers_of e) bytes x.value) whole x.reads
+
+pub kept-sound : (asked : AskedFor) (bytes : List ℕ) (t : Shown) (i : Item) → t.exact ≡ false
+    → IsUtf8 bytes
     → KeepsFlatText asked bytes t i → is_flat t i ≡ true
-kept-sound asked bytes t i utf8 x =
-    let valid = (document_from_text bytes x.value utf8 x.reads x.short).valid in
+kept-sound asked bytes t i whole utf8 x =
+    let valid = (document_from_text bytes x.value utf8 (kept-whole_numbers asked bytes t i whole x)
+    x.short).valid in
     and-both _ _ (ap is_some x.means)
     (subst IsDocumentValue (sym (meaning-kept asked bytes t i x))
     (kept-allowed asked x.value x.kept x.keeps valid))
 
-pub kept-document : (asked : AskedFor) (bytes : List ℕ) (f : Flat) (t : Shown) → IsUtf8 bytes
+pub kept-document : (asked : AskedFor) (bytes : List ℕ) (f : Flat) (t : Shown) → t.exact ≡ false
+    → IsUtf8 bytes
     → shown f.tables ≡ t → KeepsFlatText asked bytes t f.root → IsReadFor asked bytes f
-kept-document asked bytes f t utf8 same x = record {
+kept-document asked bytes f t whole utf8 same x = record {
   document = x.value;
-  is = document_from_text bytes x.value utf8 x.reads x.short;
+  is = document_from_text bytes x.value utf8 (kept-whole_numbers asked bytes t f.root whole x)
+      x.short;
   kept =
       subst (IsKept asked x.value)
       (sym (ap (λ s. meaning s f.root) same ∙ meaning-kept asked bytes t f.root x)) x.keeps;

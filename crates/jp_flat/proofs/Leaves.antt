@@ -16,10 +16,17 @@ use Rattle.json.specs.Token.{Token}
 use Rattle.json.proofs.Grammar.{value_is, value-begin_array, value-begin_object}
 use Rattle.serde_json.specs.Data.{unsigned}
 use Rattle.serde_json.specs.Read.{is_integer, number_from}
-use Rattle.jp_flat.specs.OfJson.{items_of_json, members_of_json, value_of_json}
-use Rattle.jp_flat.specs.Private.Integer.{IsWholeText, whole_number}
+use Rattle.jp_document.specs.OfJson.{items_of_json, members_of_json, value_of_json}
+use Rattle.jp_flat.specs.Private.Integer.{IsWholeText}
+use Rattle.jp_document.specs.NumberTexts.{numbers_of}
+use Rattle.jp_decimal.specs.NormalForm.{normal_form}
+use Rattle.jp_decimal.specs.TextValue.{value_of_text}
+use Rattle.jp_decimal.specs.declared.number.Number.{Number}
+use Rattle.jp_document.specs.NumberValue.{number_value}
+use Rattle.jp_flat.proofs.Numbers.{value-bounded, value-leaf, whole-kept}
+use Rattle.jp_document.specs.Location.{entries}
 use Rattle.jp_flat.specs.Private.FromTokens.{ReadsItems, ReadsMembers, ReadsValue, converted}
-use Rattle.jp_document.specs.Value.{Value, null, boolean, text, whole, list, object}
+use Rattle.jp_document.specs.Value.{Value, null, boolean, text, whole, decimal, list, object}
 use Rattle.jp_document.specs.Value.{items_of, members_of}
 use Rattle.jp_reading.proofs.Conjunctions.{and-both}
 use Rattle.jp_flat.proofs.Rounds.{converted-map, from_zero_text, one_token}
@@ -27,6 +34,7 @@ use Rattle.jp_flat.specs.Asked.{is_leaf}
 use Rattle.jp_flat.specs.Flat.{Shown, flat_value, number_of, text_at}
 use Rattle.jp_flat.specs.Private.Kept.{IsBare}
 use Rattle.jp_flat.specs.Private.Reading.{ReadsLeaf, IsWholeItem, ReadsFlat, ReadsFlatItems}
+use Rattle.jp_flat.specs.Private.Taken.{IsTaken}
 use Rattle.jp_flat.specs.Private.Reading.{ReadsFlatMembers, with_items}
 use Rattle.jp_flat.specs.declared.item.Halves.{Halves}
 use Rattle.jp_flat.specs.declared.item.Item.{Item}
@@ -50,6 +58,12 @@ pub text_means : (n : ℕ) (t : Shown) (p : Span) (x : List ℕ) → text_at t p
 unfolding flat_value
 text_means zero t p x is = ap (option_map text) is
 text_means (suc n) t p x is = ap (option_map text) is
+
+pub numeral-means : (n : ℕ) (t : Shown) (p : Span) (x : List ℕ) → text_at t p ≡ Some x
+    → flat_value n t (code.Numeral p) ≡ Some (number_value (value_of_text x))
+unfolding flat_value
+numeral-means zero t p x is = ap (option_map (λ s. number_value (value_of_text s))) is
+numeral-means (suc n) t p x is = ap (option_map (λ s. number_value (value_of_text s))) is
 
 pub above_means : (n : ℕ) (t : Shown) (h : Halves)
     → flat_value n t (code.Above h) ≡ Some (whole (pos (number_of h)))
@@ -132,7 +146,7 @@ leaf-null k t is = λ depth r items. (
   record {
     value = null;
     reads = one_token depth (k ∷ r) r Token.null null (ap (λ k. k ∷ r) is)
-        (ap (converted (value_of_json whole_number)) (value_is depth (Token.null ∷ r)));
+        (ap (converted (value_of_json (numbers_of t.exact))) (value_is depth (Token.null ∷ r)));
     short = refl;
     means = null_means depth (with_items t items);
   },
@@ -145,7 +159,7 @@ leaf-boolean k t b is = λ depth r items. (
   record {
     value = boolean b;
     reads = one_token depth (k ∷ r) r (Token.boolean b) (boolean b) (ap (λ k. k ∷ r) is)
-        (ap (converted (value_of_json whole_number)) (value_is depth (Token.boolean b ∷ r)));
+        (ap (converted (value_of_json (numbers_of t.exact))) (value_is depth (Token.boolean b ∷ r)));
     short = refl;
     means = boolean_means depth (with_items t items) b;
   },
@@ -170,19 +184,57 @@ leaf-text k t p x is at = λ depth r items. (
   refl,
 )
 
+-- whole numbers are taken in each mode
+whole-taken : (b : Bool) (s : List ℕ) (z : ℤ) → IsWholeText s z → numbers_of b s ≡ Some (whole z)
+whole-taken false s z x = x.is
+whole-taken true s z x = ap Some (whole-kept s (whole z) x.is)
+
 pub leaf-whole : (k : Token) (t : Shown) (i : Item) (s : List ℕ) → k ≡ Token.number s
     → IsWholeItem s i → ReadsLeaf k t i
 leaf-whole k t i s is x = λ depth r items. (
   record {
     value = whole x.number;
     reads = one_token depth (k ∷ r) r (Token.number s) (whole x.number) (ap (λ k. k ∷ r) is)
-        (ap (converted (value_of_json whole_number)) (value_is depth (Token.number s ∷ r))
-        ∙ ap (option_map (λ v. (v, r))) x.written.is);
+        (ap (converted (value_of_json (numbers_of t.exact))) (value_is depth (Token.number s ∷ r))
+        ∙ ap (option_map (λ v. (v, r))) (whole-taken t.exact s x.number x.written));
     short = refl;
     means = x.means depth (with_items t items);
   },
   refl,
 )
+
+leaf-empty : (v : Value) → is_leaf v ≡ true → entries v ≡ []
+leaf-empty null is = refl
+leaf-empty (boolean b) is = refl
+leaf-empty (whole z) is = refl
+leaf-empty (decimal c e) is = refl
+leaf-empty (text s) is = refl
+leaf-empty (list vs) is = absurd (cc)
+leaf-empty (object ms) is = absurd (cc)
+
+pub leaf-taken : (k : Token) (t : Shown) (i : Item) (s : List ℕ) → k ≡ Token.number s
+    → IsTaken t s i → ReadsLeaf k t i
+leaf-taken k t i s is x = λ depth r items. (
+  record {
+    value = x.value;
+    reads = one_token depth (k ∷ r) r (Token.number s) x.value (ap (λ k. k ∷ r) is)
+        (ap (converted (value_of_json (numbers_of t.exact))) (value_is depth (Token.number s ∷ r))
+        ∙ ap (option_map (λ v. (v, r))) x.taken);
+    short = x.short;
+    means = x.means depth items;
+  },
+  leaf-empty x.value x.alone,
+)
+
+pub numeral-taken : (t : Shown) (p : Span) (s : List ℕ) (n : Number) → t.exact ≡ true
+    → normal_form (value_of_text s) ≡ Some n → text_at t p ≡ Some s → IsTaken t s (code.Numeral p)
+numeral-taken t p s n mode held at = record {
+  value = number_value (value_of_text s);
+  taken = ap (λ b. numbers_of b s) mode;
+  short = value-bounded (value_of_text s) n held;
+  alone = value-leaf (value_of_text s) n held;
+  means = λ k items. numeral-means k (with_items t items) p s at;
+}
 
 pub leaf-read : (depth : ℕ) (ts r : List Token) (token : Token) (t : Shown) (i : Item)
     → ts ≡ token ∷ r → ReadsLeaf token t i → ReadsFlat depth ts r t i

@@ -7,6 +7,7 @@ pub mod Blocks
 pub mod ByKeys
 pub mod Digits
 pub mod Documents
+pub mod ExactLaws
 pub mod FoundInside
 pub mod Fronts
 pub mod Growth
@@ -20,6 +21,7 @@ pub mod Lookups
 pub mod Loops
 pub mod Moved
 pub mod Names
+pub mod Numbers
 pub mod NoValues
 pub mod Owned
 pub mod Passed
@@ -29,6 +31,7 @@ pub mod PickedValues
 pub mod Planted
 pub mod Punctuated
 pub mod Putting
+pub mod ReadValues
 pub mod Rounds
 pub mod Searched
 pub mod Sunk

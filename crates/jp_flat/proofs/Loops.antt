@@ -13,9 +13,10 @@ use Rattle.json.specs.Json.{after_end_array, read_key}
 use Rattle.json.specs.Token.{Token}
 use Rattle.jp_flat.specs.Private.FromTokens.{ReadsItems, ReadsValue}
 use Rattle.jp_document.specs.Value.{Value, everywhere, everywhere_in_items, item_count, items_of}
-use Rattle.jp_document.specs.Value.{list, list_fits, members_of, names_rise, object}
+use Rattle.jp_document.specs.Value.{list, members_of, names_rise, object}
+use Rattle.jp_flat.specs.Private.Bounded.{is_bounded}
 use Rattle.jp_document.proofs.Descent.Inside.{all-items}
-use Rattle.jp_flat.proofs.Ahead.{MembersAhead, ahead_member, ahead_members_end}
+use Rattle.jp_flat.proofs.Ahead.{MembersAhead, ahead-in, ahead_member, ahead_members_end}
 use Rattle.jp_flat.proofs.Rounds.{items_over, items_round}
 use Rattle.jp_flat.specs.Flat.{Grows, Shown, all_of, flat_value, member_with, text_at}
 use Rattle.jp_flat.specs.Private.Reading.{BeginsItems, BeginsValues, IsAboveLast, ReadsLeaf, IsTheListOf}
@@ -28,7 +29,7 @@ use Rattle.jp_flat.proofs.Growth.{all_of_grows, all_of_push, grows_on, grows_sam
 use Rattle.jp_flat.proofs.Growth.{grows_beside, member_grows, text_grows, value_grows}
 use Rattle.jp_flat.proofs.Leaves.{value_goes}
 use Rattle.jp_flat.proofs.Names.{put_all-push, rise-push}
-use Rattle.jp_flat.specs.Private.Integer.{whole_number}
+use Rattle.jp_document.specs.NumberTexts.{numbers_of}
 
 pub cut_back : {A : Type 0} (base : ℕ) (old new all : List A) → all ≡ old ++ new → base ≡ length old
     → drop base all ≡ new
@@ -42,7 +43,8 @@ cut_front base old new all pushed at =
 
 -- ---- items
 
-pub values_none : (depth : ℕ) (ts : List Token) → BeginsValues depth ts ts []
+pub values_none : {N : List ℕ → Option Value} (depth : ℕ) (ts : List Token)
+    → BeginsValues N depth ts ts []
 values_none depth ts = record {
   rounds = length ts;
   enough = omega arith;
@@ -51,21 +53,21 @@ values_none depth ts = record {
 }
 
 short_item : (values : List Value) (v : Value)
-    → everywhere_in_items list_fits (items_of values) ≡ true → everywhere list_fits v ≡ true
-    → everywhere_in_items list_fits (items_of (values ++ v ∷ [])) ≡ true
+    → everywhere_in_items is_bounded (items_of values) ≡ true → everywhere is_bounded v ≡ true
+    → everywhere_in_items is_bounded (items_of (values ++ v ∷ [])) ≡ true
 short_item values v before here =
-    all-items list_fits (values ++ v ∷ [])
-    ∙ list_all-append (everywhere list_fits) values (v ∷ [])
-    ∙ and_from _ _ (sym (all-items list_fits values) ∙ before) (and_from _ _ here refl)
+    all-items is_bounded (values ++ v ∷ [])
+    ∙ list_all-append (everywhere is_bounded) values (v ∷ [])
+    ∙ and_from _ _ (sym (all-items is_bounded values) ∙ before) (and_from _ _ here refl)
 
-pub values_more : (depth : ℕ) (initial ts r : List Token) (values : List Value) (v : Value)
-    → length r < length ts → ReadsValue whole_number depth ts r v → everywhere list_fits v ≡ true
-    → BeginsValues depth initial ts values → BeginsValues depth initial r (values ++ v ∷ [])
-values_more depth initial ts r values v less x short so = record {
+pub values_more : {N : List ℕ → Option Value} (depth : ℕ) (initial ts r : List Token) (values : List Value) (v : Value)
+    → length r < length ts → ReadsValue N depth ts r v → everywhere is_bounded v ≡ true
+    → BeginsValues N depth initial ts values → BeginsValues N depth initial r (values ++ v ∷ [])
+values_more {N = N} depth initial ts r values v less x short so = record {
   rounds = so.rounds - 1;
   enough = omega (arith, so.enough);
   ahead = λ vs q later.
-      subst (λ ws. ReadsItems whole_number depth (length initial) initial q (items_of ws))
+      subst (λ ws. ReadsItems N depth (length initial) initial q (items_of ws))
       (sym (append_assoc values (v ∷ []) vs))
       (so.ahead (v ∷ vs) q
       (items_round depth so.rounds ts r q v (items_of vs) (omega (arith, so.enough))
@@ -73,18 +75,25 @@ values_more depth initial ts r values v less x short so = record {
   short = short_item values v so.short short;
 }
 
-pub values_end : (depth : ℕ) (initial ts r : List Token) (values : List Value)
-    → after_end_array ts ≡ Some r → BeginsValues depth initial ts values
-    → ReadsItems whole_number depth (length initial) initial r (items_of values)
-values_end depth initial ts r values over so =
-    subst (λ ws. ReadsItems whole_number depth (length initial) initial r (items_of ws)) (append-nil values)
+pub values_end : {N : List ℕ → Option Value} (depth : ℕ) (initial ts r : List Token) (values : List Value)
+    → after_end_array ts ≡ Some r → BeginsValues N depth initial ts values
+    → ReadsItems N depth (length initial) initial r (items_of values)
+values_end {N = N} depth initial ts r values over so =
+    subst (λ ws. ReadsItems N depth (length initial) initial r (items_of ws)) (append-nil values)
     (so.ahead [] r (items_over depth so.rounds ts r so.enough over))
+
+-- the same where as much is taken
+pub begins-in : (b c : Bool) (depth : ℕ) (ts rest : List Token) (values : List Value) → c ≡ b
+    → BeginsValues (numbers_of b) depth ts rest values
+    → BeginsValues (numbers_of c) depth ts rest values
+begins-in b c depth ts rest values same so =
+    subst (λ e. BeginsValues (numbers_of e) depth ts rest values) (sym same) so
 
 item_count-items_of : (vs : List Value) → item_count (items_of vs) ≡ length vs
 item_count-items_of [] = refl
 item_count-items_of (v ∷ vs) = ap suc (item_count-items_of vs)
 
-pub few_fit : (vs : List Value) → length vs < 2 ^ 32 → list_fits (list (items_of vs)) ≡ true
+pub few_fit : (vs : List Value) → length vs < 2 ^ 32 → is_bounded (list (items_of vs)) ≡ true
 few_fit vs few = le-leb _ _ (omega (arith, few, item_count-items_of vs))
 
 begins_none : (depth : ℕ) (ts : List Token) (t : Shown) → BeginsItems depth ts ts t []
@@ -95,7 +104,9 @@ begins_more : (depth : ℕ) (initial ts r : List Token) (s u : Shown) (items : L
     → BeginsItems depth initial ts s items → BeginsItems depth initial r u (items ++ i ∷ [])
 begins_more depth initial ts r s u items i less more x so = record {
   values = so.values ++ x.value ∷ [];
-  begins = values_more depth initial ts r so.values x.value less x.reads x.short so.begins;
+  begins =
+      values_more depth initial ts r so.values x.value less x.reads x.short
+      (begins-in s.exact u.exact depth initial ts so.values more.exact so.begins);
   mean = all_of_push (flat_value depth u) items so.values i x.value
       (all_of_grows (flat_value depth s) (flat_value depth u) items so.values
       (value_grows depth s u more) so.mean) x.means;
@@ -103,10 +114,12 @@ begins_more depth initial ts r s u items i less more x so = record {
 
 begins_end : (depth : ℕ) (initial ts r : List Token) (s u : Shown) (items : List Item) (i : Item)
     → after_end_array ts ≡ Some r → length items < 2 ^ 32 → IsTheListOf items s u i
-    → BeginsItems depth initial ts s items → ReadsFlatItems depth initial r u i
-begins_end depth initial ts r s u items i over few closed so = record {
+    → u.exact ≡ s.exact → BeginsItems depth initial ts s items → ReadsFlatItems depth initial r u i
+begins_end depth initial ts r s u items i over few closed same so = record {
   values = so.values;
-  reads = values_end depth initial ts r so.values over so.begins;
+  reads =
+      values_end depth initial ts r so.values over
+      (begins-in s.exact u.exact depth initial ts so.values same so.begins);
   within = so.short;
   short =
       few_fit so.values
@@ -153,10 +166,11 @@ leaves_end depth initial ts r t s first i over at few closed so =
     (omega (arith, few, at, ap length so.behind, length-append t.items so.new))
     (subst (λ xs. IsTheListOf so.new (with_items s xs) s i) front
     (subst (λ xs. IsTheListOf xs (with_items s (take first s.items)) s i) back closed))
-    (so.begins depth)
+    refl (so.begins depth)
 
 pub leaves_grow : (ts rest : List Token) (t s : Shown) → ReadsLeaves ts rest t s → Grows t s
 leaves_grow ts rest t s so = record {
+  exact = so.grows.exact;
   source = so.grows.source;
   spare = so.grows.spare;
   items = record { rest = so.new; is = so.behind };
@@ -215,13 +229,13 @@ items_more depth initial ts r t s u base old all i less x more so = record {
 
 pub items_end : (depth : ℕ) (initial ts r : List Token) (t s u : Shown) (base : ℕ)
     (old all : List Item) (i : Item) → after_end_array ts ≡ Some r → length all < base + 2 ^ 32
-    → IsTheListOf (drop base all) s u i → ItemsSoFar depth initial ts t s base old all
+    → IsTheListOf (drop base all) s u i → Grows s u → ItemsSoFar depth initial ts t s base old all
     → ReadsFlatItems depth initial r u i
-items_end depth initial ts r t s u base old all i over few closed so =
+items_end depth initial ts r t s u base old all i over few closed more so =
     let back = cut_back base old so.new all so.pushed so.at in
     begins_end depth initial ts r s u so.new i over
     (omega (arith, few, so.at, ap length so.pushed, length-append old so.new))
-    (subst (λ xs. IsTheListOf xs s u i) back closed) so.begins
+    (subst (λ xs. IsTheListOf xs s u i) back closed) more.exact so.begins
 
 -- ---- members
 
@@ -232,7 +246,7 @@ pub record MembersSoFar (depth : ℕ) (initial ts : List Token) (before now : Sh
   pub enough : length ts ≤ rounds
   pub shorter : length ts ≤ length initial
   pub found : List (List ℕ × Value)
-  pub ahead : MembersAhead whole_number depth initial rounds ts (put_all [] found)
+  pub ahead : MembersAhead (numbers_of now.exact) depth initial rounds ts (put_all [] found)
   pub new : List Named
   pub mean : all_of (member_with (flat_value depth now) now) new ≡ Some found
   pub pushed : all ≡ old ++ new
@@ -285,9 +299,11 @@ members_more depth initial ts a r t s w u base rises still old all name m key le
       shorter = omega (arith, so.shorter);
       found = so.found ++ p ∷ [];
       ahead =
-          subst (MembersAhead whole_number depth initial (so.rounds - 1) r) (sym (put_all-push [] so.found p))
+          subst (MembersAhead (numbers_of u.exact) depth initial (so.rounds - 1) r)
+          (sym (put_all-push [] so.found p))
           (ahead_member depth initial so.rounds name ts a r (put_all [] so.found) x.value
-          (omega (arith, so.enough)) key x.reads x.short so.ahead);
+          (omega (arith, so.enough)) key x.reads x.short
+          (ahead-in s.exact u.exact depth initial so.rounds ts (put_all [] so.found) more.exact so.ahead));
       new = so.new ++ m ∷ [];
       mean = all_of_push (member_with (flat_value depth u) u) so.new so.found m p kept here;
       pushed = ap (λ xs. xs ++ m ∷ []) so.pushed ∙ append_assoc old so.new (m ∷ []);
@@ -303,12 +319,12 @@ pub members_end : (depth : ℕ) (initial ts r : List Token) (t s u : Shown) (bas
     (old all : List Named) (i : Item) → read_key ts ≡ Some (None, r)
     → ((n : ℕ) (ms : List (List ℕ × Value)) → (rises ≡ true → names_rise (keys_of ms) ≡ true)
     → all_of (member_with (flat_value n s) s) (drop base all) ≡ Some ms
-    → flat_value (suc n) u i ≡ Some (object (members_of (put_all [] ms))))
+    → flat_value (suc n) u i ≡ Some (object (members_of (put_all [] ms)))) → Grows s u
     → MembersSoFar depth initial ts t s base rises old all → ReadsFlatMembers depth initial r u i
-members_end depth initial ts r t s u base rises old all i over closed so = record {
+members_end depth initial ts r t s u base rises old all i over closed more so = record {
   members = put_all [] so.found;
   reads = ahead_members_end depth initial so.rounds ts r (put_all [] so.found) so.enough over
-      so.ahead;
+      (ahead-in s.exact u.exact depth initial so.rounds ts (put_all [] so.found) more.exact so.ahead);
   within = so.ahead.short;
   means = closed depth so.found so.rise
       (ap (all_of (member_with (flat_value depth s) s))

@@ -11,7 +11,7 @@ use Rattle.json.proofs.Grammar.{value-begin_object, value_is}
 use Rattle.serde_json.specs.Data.{Data}
 use Rattle.serde_json.specs.Read.{of_json}
 use Rattle.jp_document.specs.Document.{HasDefect, not_json}
-use Rattle.jp_flat.specs.Flat.{most_levels}
+use Rattle.jp_document.specs.OfJson.{most_levels}
 use Rattle.jp_flat.specs.Private.NoJson.{Halts, IsAhead, IsFault, IsMet, HasNoItems, HasNoMembers, HasNoValue, is_lone}
 use Rattle.jp_flat.specs.declared.met.Met.{Met}
 use Rattle.jp_flat.specs.declared.met.Met.TheVariants.{End, Fault, Other}

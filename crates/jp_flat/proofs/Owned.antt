@@ -6,7 +6,8 @@ use Rattle.std.proofs.lemmas.Bool.{cond-true, leb-true, le-leb}
 use Rattle.std.proofs.lemmas.Option.{cond_some}
 use Rattle.jp_document.specs.Value.{everywhere, is_allowed, null}
 use Rattle.jp_flat.specs.Flat.{BeginsWith, IsOwned, Keeps, Shown, flat_value, is_flat, meaning, piece}
-use Rattle.jp_flat.specs.Flat.{most_levels, text_at}
+use Rattle.jp_flat.specs.Flat.{text_at}
+use Rattle.jp_document.specs.OfJson.{most_levels}
 use Rattle.jp_flat.specs.declared.item.Item.{Item}
 use Rattle.jp_flat.specs.declared.item.Span.{Span}
 use Rattle.jp_reading.proofs.Conjunctions.{and-left, and-right}

@@ -11,7 +11,7 @@ use Rattle.jp_document.specs.Value.{Items, Members, Value, boolean, everywhere}
 use Rattle.jp_document.specs.Value.{everywhere_in_items, everywhere_in_members, is_allowed, item}
 use Rattle.jp_document.specs.Value.{item_count, items_of, list, member, members_of}
 use Rattle.jp_document.specs.Value.{names_of, names_rise, no_items, no_members, null}
-use Rattle.jp_document.specs.Value.{object, text, whole}
+use Rattle.jp_document.specs.Value.{object, text, whole, decimal}
 use Rattle.jp_document.proofs.Members.ByName.{bytes_cmp}
 use Rattle.jp_document.proofs.Members.Inserting.{keys_rise}
 use Rattle.jp_reading.specs.Numbers.{largest_exact}
@@ -179,6 +179,7 @@ members-allowed p (object ms) all =
 members-allowed p (list vs) all = all
 members-allowed p (text s) all = all
 members-allowed p (whole z) all = all
+members-allowed p (decimal c e) all = all
 members-allowed p (boolean b) all = all
 members-allowed p null all = all
 
@@ -203,5 +204,6 @@ picked-allowed p (list vs) all =
 picked-allowed p (object ms) all = all
 picked-allowed p (text s) all = all
 picked-allowed p (whole z) all = all
+picked-allowed p (decimal c e) all = all
 picked-allowed p (boolean b) all = all
 picked-allowed p null all = all

@@ -8,7 +8,8 @@ use Rattle.std.specs.Map.{keys_of}
 use Rattle.std.proofs.lemmas.List.{length-append, length-map, map-append}
 use Rattle.json.specs.Json.{after_end_array, read_key}
 use Rattle.json.specs.Token.{Token}
-use Rattle.jp_document.specs.Value.{Value, everywhere, items_of, list, list_fits, members_of}
+use Rattle.jp_document.specs.Value.{Value, everywhere, items_of, list, members_of}
+use Rattle.jp_flat.specs.Private.Bounded.{is_bounded}
 use Rattle.jp_document.specs.Value.{names_rise, object}
 use Rattle.jp_document.proofs.Members.ByName.{bytes_cmp, names_of-members_of}
 use Rattle.jp_flat.specs.Asked.{with_items_of, with_members}
@@ -18,14 +19,14 @@ use Rattle.jp_flat.specs.Private.Kept.{KeepsFlat, KeepsFlatItems, KeepsFlatMembe
 use Rattle.jp_flat.specs.Private.Reading.{BeginsValues, IsAboveLast, IsTheListOf, ReadsFlat, put_all}
 use Rattle.jp_flat.specs.declared.item.Item.{Item}
 use Rattle.jp_flat.specs.declared.item.Named.{Named}
-use Rattle.jp_flat.proofs.Ahead.{MembersAhead, ahead_member, ahead_members_end}
+use Rattle.jp_flat.proofs.Ahead.{MembersAhead, ahead-in, ahead_member, ahead_members_end}
 use Rattle.jp_flat.proofs.Growth.{all_of_grows, all_of_push, grows_on, grows_same, length-all_of}
 use Rattle.jp_flat.proofs.Growth.{member_grows, text_grows, value_grows}
-use Rattle.jp_flat.proofs.Loops.{cut_back, few_fit, values_end, values_more, values_none}
+use Rattle.jp_flat.proofs.Loops.{begins-in, cut_back, few_fit, values_end, values_more, values_none}
 use Rattle.jp_flat.proofs.Names.{Pair, put_all-push, rise-push}
 use Rattle.jp_flat.proofs.Picked.{items_with-items_of, members_named-members_of, pairs_named}
 use Rattle.jp_flat.proofs.Picked.{put-named, put-unnamed}
-use Rattle.jp_flat.specs.Private.Integer.{whole_number}
+use Rattle.jp_document.specs.NumberTexts.{numbers_of}
 
 -- ---- items
 
@@ -34,7 +35,7 @@ pub record ItemsPicked (p : List ℕ → Bool) (depth : ℕ) (initial ts : List 
     (base : ℕ) (old all : List Item) : Type 0 where
   pub new : List Item
   pub values : List Value
-  pub begins : BeginsValues depth initial ts values
+  pub begins : BeginsValues (numbers_of now.exact) depth initial ts values
   pub mean : all_of (flat_value depth now) new ≡ Some (map (with_members p) values)
   pub pushed : all ≡ old ++ new
   pub at : base ≡ length old
@@ -58,7 +59,9 @@ pub items-more : (p : List ℕ → Bool) (depth : ℕ) (initial ts r : List Toke
 items-more p depth initial ts r s u base old all i less more x so = record {
   new = so.new ++ i ∷ [];
   values = so.values ++ x.value ∷ [];
-  begins = values_more depth initial ts r so.values x.value less x.reads x.short so.begins;
+  begins =
+      values_more depth initial ts r so.values x.value less x.reads x.short
+      (begins-in s.exact u.exact depth initial ts so.values more.exact so.begins);
   mean =
       all_of_push (flat_value depth u) so.new (map (with_members p) so.values) i (with_members p x.value)
       (all_of_grows (flat_value depth s) (flat_value depth u) so.new (map (with_members p) so.values)
@@ -70,15 +73,17 @@ items-more p depth initial ts r s u base old all i less more x so = record {
 
 pub items-end : (p : List ℕ → Bool) (depth : ℕ) (initial ts r : List Token) (s u : Shown) (base : ℕ)
     (old all : List Item) (i : Item) → after_end_array ts ≡ Some r → length all < base + 2 ^ 32
-    → IsTheListOf (drop base all) s u i → ItemsPicked p depth initial ts s base old all
+    → IsTheListOf (drop base all) s u i → Grows s u → ItemsPicked p depth initial ts s base old all
     → KeepsFlatItems (λ v w. w ≡ with_items_of p v) depth initial r u i
-items-end p depth initial ts r s u base old all i over few closed so =
+items-end p depth initial ts r s u base old all i over few closed more so =
     let back = cut_back base old so.new all so.pushed so.at in
     let kept = map (with_members p) so.values in
     record {
       values = so.values;
       kept = list (items_of kept);
-      reads = values_end depth initial ts r so.values over so.begins;
+      reads =
+          values_end depth initial ts r so.values over
+          (begins-in s.exact u.exact depth initial ts so.values more.exact so.begins);
       within = so.begins.short;
       short =
           few_fit so.values
@@ -105,7 +110,7 @@ pub record MembersPicked (p : List ℕ → Bool) (depth : ℕ) (initial ts : Lis
   pub enough : length ts ≤ rounds
   pub shorter : length ts ≤ length initial
   pub read : List Pair
-  pub ahead : MembersAhead whole_number depth initial rounds ts read
+  pub ahead : MembersAhead (numbers_of now.exact) depth initial rounds ts read
   pub found : List Pair
   pub kept : put_all [] found ≡ pairs_named p read
   pub new : List Named
@@ -166,7 +171,8 @@ members_more p depth initial ts a r t s w x u base rises still old all name m ke
       read = insert_entry bytes_cmp so.read name y.value;
       ahead =
           ahead_member depth initial so.rounds name ts a r so.read y.value
-          (omega (arith, so.enough)) key y.reads y.short so.ahead;
+          (omega (arith, so.enough)) key y.reads y.short
+          (ahead-in s.exact u.exact depth initial so.rounds ts so.read more.exact so.ahead);
       found = so.found ++ e ∷ [];
       kept =
           put_all-push [] so.found e
@@ -191,7 +197,7 @@ members_more p depth initial ts a r t s w x u base rises still old all name m ke
 pub members_past : (p : List ℕ → Bool) (depth : ℕ) (initial ts a r : List Token) (t s w u : Shown)
     (base : ℕ) (rises : Bool) (old all : List Named) (name : List ℕ) (v : Value)
     → read_key ts ≡ Some (Some name, a) → p name ≡ false → length r < length ts
-    → ReadsValue whole_number depth a r v → everywhere list_fits v ≡ true → Grows s w → Grows w u
+    → ReadsValue (numbers_of u.exact) depth a r v → everywhere is_bounded v ≡ true → Grows s w → Grows w u
     → MembersPicked p depth initial ts t s base rises old all
     → MembersPicked p depth initial r t u base rises old all
 members_past p depth initial ts a r t s w u base rises old all name v key dropped less x short one
@@ -204,7 +210,7 @@ members_past p depth initial ts a r t s w u base rises old all name v key droppe
       read = insert_entry bytes_cmp so.read name v;
       ahead =
           ahead_member depth initial so.rounds name ts a r so.read v (omega (arith, so.enough)) key x
-          short so.ahead;
+          short (ahead-in s.exact u.exact depth initial so.rounds ts so.read more.exact so.ahead);
       found = so.found;
       kept = so.kept ∙ put-unnamed p name v so.read dropped;
       new = so.new;
@@ -219,13 +225,14 @@ pub members-end : (p : List ℕ → Bool) (depth : ℕ) (initial ts r : List Tok
     (base : ℕ) (rises : Bool) (old all : List Named) (i : Item) → read_key ts ≡ Some (None, r)
     → ((n : ℕ) (ms : List Pair) → (rises ≡ true → names_rise (keys_of ms) ≡ true)
     → all_of (member_with (flat_value n s) s) (drop base all) ≡ Some ms
-    → flat_value (suc n) u i ≡ Some (object (members_of (put_all [] ms))))
+    → flat_value (suc n) u i ≡ Some (object (members_of (put_all [] ms)))) → Grows s u
     → MembersPicked p depth initial ts t s base rises old all
     → KeepsFlatMembers (λ v w. w ≡ with_members p v) depth initial r u i
-members-end p depth initial ts r t s u base rises old all i over closed so = record {
+members-end p depth initial ts r t s u base rises old all i over closed more so = record {
   members = so.read;
   kept = object (members_of (put_all [] so.found));
-  reads = ahead_members_end depth initial so.rounds ts r so.read so.enough over so.ahead;
+  reads = ahead_members_end depth initial so.rounds ts r so.read so.enough over
+      (ahead-in s.exact u.exact depth initial so.rounds ts so.read more.exact so.ahead);
   within = so.ahead.short;
   keeps =
       ap (λ ms. object (members_of ms)) so.kept

@@ -4,7 +4,7 @@ use Rattle.std.proofs.Common.{◌≡◌, ◌-◌, ◌<◌, ℕ, suc, Bool, List,
 use Rattle.std.proofs.Common.{arith}
 use Rattle.json.specs.Token.{Token}
 use Rattle.jp_document.specs.Value.{Value, boolean, items_of, list, members_of, null, object, text}
-use Rattle.jp_document.specs.Value.{whole}
+use Rattle.jp_document.specs.Value.{whole, decimal}
 use Rattle.jp_reading.proofs.Conjunctions.{and-both}
 use Rattle.jp_flat.specs.Asked.{with_items_of, with_members}
 use Rattle.jp_flat.specs.Flat.{Shown, flat_value}
@@ -15,10 +15,11 @@ use Rattle.jp_flat.specs.Private.Tokens.{token_of}
 use Rattle.jp_flat.specs.declared.item.Item.{Item}
 use Rattle.jp_flat.specs.declared.token.Token as code
 use Rattle.jp_flat.specs.declared.token.Token.TheVariants.{BeginArray, BeginObject}
-use Rattle.jp_flat.proofs.Begun.{a_list, an_object, begins-list, begins-object, sort_of, sort-read}
+use Rattle.jp_flat.proofs.Begun.{a_list, an_object, begins-list, begins-object, sort-number_of, sort_of}
+use Rattle.jp_flat.proofs.Begun.{sort-read}
 use Rattle.jp_flat.proofs.Begun.{token_sort}
 use Rattle.jp_flat.proofs.Leaves.{reads_list, reads_object}
-use Rattle.jp_flat.specs.Private.Integer.{whole_number}
+use Rattle.jp_document.specs.NumberTexts.{numbers_of}
 
 -- ---- lists and objects of which some is kept
 
@@ -58,9 +59,10 @@ keeps-same : (f : Value → Value) (depth : ℕ) (ts q r : List Token) (k : Toke
 keeps-same f depth ts q r k t i first same x = record {
   value = x.value;
   kept = x.value;
-  reads = subst (λ ks. ReadsValue whole_number depth ks r x.value) (sym first) x.reads;
+  reads = subst (λ ks. ReadsValue (numbers_of t.exact) depth ks r x.value) (sym first) x.reads;
   short = x.short;
-  keeps = same x.value (sort-read depth k q r x.value x.reads);
+  keeps = same x.value
+      (sort-read (numbers_of t.exact) (sort-number_of t.exact) depth k q r x.value x.reads);
   means = x.means;
 }
 
@@ -69,6 +71,7 @@ no-list p (list vs) none = absurd (none refl)
 no-list p (object ms) none = refl
 no-list p (text s) none = refl
 no-list p (whole z) none = refl
+no-list p (decimal c e) none = refl
 no-list p (boolean b) none = refl
 no-list p null none = refl
 
@@ -77,6 +80,7 @@ no-object p (list vs) none = refl
 no-object p (object ms) none = absurd (none refl)
 no-object p (text s) none = refl
 no-object p (whole z) none = refl
+no-object p (decimal c e) none = refl
 no-object p (boolean b) none = refl
 no-object p null none = refl
 

@@ -5,7 +5,7 @@ use Rattle.std.proofs.Common.{◌∷◌, ◌++◌, ◌⊎◌, inl, inr, length, 
 use Rattle.std.proofs.Common.{None}
 use Rattle.std.proofs.Common.{option_and_then, refl, sym, ap, ◌∙◌, subst, arith}
 use Rattle.std.proofs.lemmas.Bool.{eqb-true, ne_eqb, or_cases}
-use Rattle.std.proofs.lemmas.List.{drop_all, drop-drop, take-append-drop}
+use Rattle.std.proofs.lemmas.List.{get_or-drop, drop_all, drop-drop, take-append-drop}
 use Rattle.std.specs.Char.{is_ascii_digit}
 use Rattle.std.specs.List.{prefix_len}
 use Rattle.json.specs.Align.{is_good}
@@ -16,7 +16,7 @@ use Rattle.json.specs.Lex.{place_token, punctuate, string_token}
 use Rattle.json.specs.Text.{content, plain}
 use Rattle.json.specs.Token as spec
 use Rattle.json.specs.Word.{after_digits, after_exponent, after_fraction, after_minus, after_number}
-use Rattle.json.specs.Word.{after_whole, ends_word, is_space, word}
+use Rattle.json.specs.Word.{after_sign, after_whole, ends_word, is_space, word}
 use Rattle.json.proofs.Printed.Numbers.{in_word-ended, lex-number, number_alone}
 use Rattle.jp_flat.specs.Private.Tokens.{EndsWhole, GivesToken, IsLiteral, IsSpelledFrom, ends_byte}
 use Rattle.jp_flat.specs.Private.Tokens.{key_token}
@@ -302,33 +302,86 @@ is_number d from end after whole ends =
           refl refl p m;
     }
 
+get_or-front : (d : List ℕ) (at : ℕ) → get_or (drop at d) 0 32 ≡ get_or d at 32
+get_or-front d at = get_or-drop at d 0 32 ∙ ap (λ k. get_or d k 32) (let e : at + 0 ≡ at = omega arith in e)
+
+-- some digits stand from an offset to another
+pub digits-there : (d : List ℕ) (at end : ℕ) → end ≡ at + prefix_len is_ascii_digit (drop at d)
+    → at < end → after_digits (drop at d) ≡ Some (drop end d)
+digits-there d at end is some =
+    let n : prefix_len is_ascii_digit (drop at d) ≡ end - at = omega arith in
+    let back : at + (end - at) ≡ end = omega arith in
+    ap (λ k. cond (k == 0) None (Some (drop k (drop at d)))) n
+    ∙ ap (λ b. cond b None (Some (drop (end - at) (drop at d)))) (ne_eqb (end - at) 0 (λ z. omega arith))
+    ∙ ap Some (drop-drop (end - at) at d ∙ ap (λ k. drop k d) back)
+
 -- the digits from `first` to `end`, behind the minus, if there is one
-pub whole_there : (d : List ℕ) (from first end : ℕ)
-    → after_minus (drop from d) ≡ drop first d
+pub whole-part : (d : List ℕ) (from first end : ℕ) → after_minus (drop from d) ≡ drop first d
     → end ≡ first + prefix_len is_ascii_digit (drop first d) → first < end → first < length d
-    → (get_or d first 0 ≡ 48 → end ≡ first + 1) → EndsWhole (drop end d)
-    → after_number (drop from d) ≡ Some (drop end d)
-unfolding after_number
-whole_there d from first end minus is some within zero ends =
-    ap (λ t. option_and_then after_exponent (option_and_then after_fraction (after_whole t))) minus
-    ∙ ap (λ o. option_and_then after_exponent (option_and_then after_fraction o)) (go (get_or d first 0 == 48) refl)
-    ∙ ap (option_and_then after_exponent) ends.point ∙ ends.power
+    → (get_or d first 0 ≡ 48 → end ≡ first + 1)
+    → after_whole (after_minus (drop from d)) ≡ Some (drop end d)
+whole-part d from first end minus is some within zero =
+    ap after_whole minus ∙ go (get_or d first 0 == 48) refl
   where
     go : (b : Bool) → (get_or d first 0 == 48) ≡ b → after_whole (drop first d) ≡ Some (drop end d)
     go true e =
         let byte : get_or d first 0 ≡ 48 = eqb-true _ _ e in
         ap after_whole (first_is d first 48 within byte) ∙ ap (λ k. Some (drop k d)) (sym (zero byte))
     go false e =
-        let n : prefix_len is_ascii_digit (drop first d) ≡ end - first = omega arith in
-        let back : first + (end - first) ≡ end = omega arith in
-        let whole : after_whole (drop first d) ≡ after_digits (drop first d) =
         ap after_whole (first_is d first _ within refl)
         ∙ ap (λ b. cond b (Some (drop (first + 1) d)) (after_digits (get_or d first 0 ∷ drop (first + 1) d))) e
-        ∙ ap after_digits (sym (first_is d first _ within refl)) in
-        whole
-        ∙ ap (λ k. cond (k == 0) None (Some (drop k (drop first d)))) n
-        ∙ ap (λ b. cond b None (Some (drop (end - first) (drop first d)))) (ne_eqb (end - first) 0 (λ z. omega arith))
-        ∙ ap Some (drop-drop (end - first) first d ∙ ap (λ k. drop k d) back)
+        ∙ ap after_digits (sym (first_is d first _ within refl)) ∙ digits-there d first end is some
+
+-- a number by its parts
+pub number-there : (d : List ℕ) (from whole point end : ℕ)
+    → after_whole (after_minus (drop from d)) ≡ Some (drop whole d)
+    → after_fraction (drop whole d) ≡ Some (drop point d)
+    → after_exponent (drop point d) ≡ Some (drop end d)
+    → after_number (drop from d) ≡ Some (drop end d)
+unfolding after_number
+number-there d from whole point end one two three =
+    ap (λ o. option_and_then after_exponent (option_and_then after_fraction o)) one
+    ∙ ap (option_and_then after_exponent) two ∙ three
+
+pub point-there : (d : List ℕ) (at end : ℕ) → at < length d → get_or d at 0 ≡ 46
+    → after_digits (drop (at + 1) d) ≡ Some (drop end d) → after_fraction (drop at d) ≡ Some (drop end d)
+point-there d at end within byte later = ap after_fraction (first_is d at 46 within byte) ∙ later
+
+pub no-point : (d : List ℕ) (at : ℕ) → (get_or d at 32 == 46) ≡ false
+    → after_fraction (drop at d) ≡ Some (drop at d)
+no-point d at off = ap (λ b. cond b (after_digits (drop 1 (drop at d))) (Some (drop at d)))
+    (ap (λ x. x == 46) (get_or-front d at) ∙ off)
+
+pub exponent-there : (d : List ℕ) (at first end : ℕ)
+    → ((get_or d at 32 == 101) || (get_or d at 32 == 69)) ≡ true
+    → after_sign (drop (at + 1) d) ≡ drop first d → after_digits (drop first d) ≡ Some (drop end d)
+    → after_exponent (drop at d) ≡ Some (drop end d)
+exponent-there d at first end on sign later =
+    ap (λ b. cond b (after_digits (after_sign (drop 1 (drop at d)))) (Some (drop at d)))
+    (ap (λ x. (x == 101) || (x == 69)) (get_or-front d at) ∙ on)
+    ∙ ap (λ r. after_digits (after_sign r)) (drop-drop 1 at d)
+    ∙ ap after_digits sign ∙ later
+
+pub no-exponent : (d : List ℕ) (at : ℕ)
+    → ((get_or d at 32 == 101) || (get_or d at 32 == 69)) ≡ false
+    → after_exponent (drop at d) ≡ Some (drop at d)
+no-exponent d at off =
+    ap (λ b. cond b (after_digits (after_sign (drop 1 (drop at d)))) (Some (drop at d)))
+    (ap (λ x. (x == 101) || (x == 69)) (get_or-front d at) ∙ off)
+
+pub sign-there : (d : List ℕ) (at : ℕ)
+    → ((get_or d at 32 == 45) || (get_or d at 32 == 43)) ≡ true
+    → after_sign (drop at d) ≡ drop (at + 1) d
+sign-there d at on =
+    ap (λ b. cond b (drop 1 (drop at d)) (drop at d))
+    (ap (λ x. (x == 45) || (x == 43)) (get_or-front d at) ∙ on)
+    ∙ drop-drop 1 at d
+
+pub no-sign : (d : List ℕ) (at : ℕ) → ((get_or d at 32 == 45) || (get_or d at 32 == 43)) ≡ false
+    → after_sign (drop at d) ≡ drop at d
+no-sign d at off =
+    ap (λ b. cond b (drop 1 (drop at d)) (drop at d))
+    (ap (λ x. (x == 45) || (x == 43)) (get_or-front d at) ∙ off)
 
 pub minus_there : (d : List ℕ) (from : ℕ) → from < length d → get_or d from 0 ≡ 45
     → after_minus (drop from d) ≡ drop (from + 1) d

@@ -14,8 +14,8 @@ use Rattle.fast_float.specs.Text.{minus, scan}
 use Rattle.serde_json.specs.Data.{number as number_data, unsigned, negative}
 use Rattle.serde_json.specs.Read.{number_of, number_from}
 use Rattle.jp_document.specs.Document.{value_of_data}
-use Rattle.jp_flat.specs.Flat.{most_levels}
-use Rattle.jp_flat.specs.OfJson.{items_of_json, members_of_json, value_of_json}
+use Rattle.jp_document.specs.OfJson.{most_levels}
+use Rattle.jp_document.specs.OfJson.{items_of_json, members_of_json, value_of_json}
 use Rattle.jp_flat.specs.Private.Integer.{IsWholeText}
 use Rattle.jp_flat.specs.Private.FromTokens.{ReadsItems, ReadsText, ReadsValue, converted}
 use Rattle.jp_document.specs.Value.{Value, whole, Items, no_items, item}

@@ -7,18 +7,20 @@ use Rattle.std.proofs.lemmas.List.{length-append}
 use Rattle.json.specs.Json.{after_end_array}
 use Rattle.json.specs.Token.{Token}
 use Rattle.jp_reading.specs.Numbers.{largest_exact}
-use Rattle.jp_document.specs.Value.{Value, items_of, list, list_fits}
+use Rattle.jp_document.specs.Value.{Value, items_of, list}
+use Rattle.jp_flat.specs.Private.Bounded.{is_bounded}
 use Rattle.jp_flat.specs.Asked.{AreThinned, IsThinned}
 use Rattle.jp_flat.specs.Asked.IsThinned.{all as whole, in_list}
 use Rattle.jp_flat.specs.Asked.AreThinned.{no_item, next_item}
 use Rattle.jp_flat.specs.Flat.{Grows, Shown, all_of, flat_value}
 use Rattle.jp_flat.specs.Private.Kept.{KeepsFlat, KeepsFlatItems}
+use Rattle.jp_document.specs.NumberTexts.{numbers_of}
 use Rattle.jp_flat.specs.Private.Reading.{BeginsItems, BeginsValues, IsTheListOf}
 use Rattle.jp_flat.specs.Private.Reading.{ReadsFlat, ReadsFlatItems, ReadsLeaves, with_items}
 use Rattle.jp_flat.specs.declared.item.Item.{Item}
 use Rattle.jp_flat.proofs.Growth.{all_of_grows, all_of_push, grows_on, length-all_of}
 use Rattle.jp_flat.proofs.Growth.{value_grows}
-use Rattle.jp_flat.proofs.Loops.{cut_back, cut_front, few_fit, values_end, values_more}
+use Rattle.jp_flat.proofs.Loops.{begins-in, cut_back, cut_front, few_fit, values_end, values_more}
 use Rattle.jp_flat.proofs.Thinned.{same-count}
 
 -- ---- values of which all is kept
@@ -52,7 +54,7 @@ keeps-all_items n depth ts r t i x = record {
 pub record BeginsKept (n : List ℕ) (depth : ℕ) (ts rest : List Token) (t : Shown) (items : List Item)
     : Type 0 where
   pub values : List Value
-  pub begins : BeginsValues depth ts rest values
+  pub begins : BeginsValues (numbers_of t.exact) depth ts rest values
   pub kept : List Value
   pub thin : AreThinned n (items_of values) (items_of kept)
   pub mean : all_of (flat_value depth t) items ≡ Some kept
@@ -84,7 +86,9 @@ begins-more : (n : List ℕ) (depth : ℕ) (initial ts r : List Token) (s u : Sh
     → BeginsKept n depth initial ts s items → BeginsKept n depth initial r u (items ++ i ∷ [])
 begins-more n depth initial ts r s u items i less more x so = record {
   values = so.values ++ x.value ∷ [];
-  begins = values_more depth initial ts r so.values x.value less x.reads x.short so.begins;
+  begins =
+      values_more depth initial ts r so.values x.value less x.reads x.short
+      (begins-in s.exact u.exact depth initial ts so.values more.exact so.begins);
   kept = so.kept ++ x.kept ∷ [];
   thin = item-push n so.values so.kept x.value x.kept so.thin x.keeps;
   mean = all_of_push (flat_value depth u) items so.kept i x.kept
@@ -143,19 +147,21 @@ kept_items-more n depth initial ts r t s u base old all i less x more so = recor
 
 pub kept_items-end : (n : List ℕ) (depth : ℕ) (initial ts r : List Token) (t s u : Shown) (base : ℕ)
     (old all : List Item) (i : Item) → after_end_array ts ≡ Some r → length all < base + 2 ^ 32
-    → IsTheListOf (drop base all) s u i → KeptItems n depth initial ts t s base old all
+    → IsTheListOf (drop base all) s u i → Grows s u → KeptItems n depth initial ts t s base old all
     → KeepsFlatItems (IsThinned n) depth initial r u i
-kept_items-end n depth initial ts r t s u base old all i over few closed so =
+kept_items-end n depth initial ts r t s u base old all i over few closed more so =
     let back = cut_back base old so.new all so.pushed so.at in
     let x = so.begins in
     let long : length so.new < 2 ^ 32 =
     omega (arith, few, so.at, ap length so.pushed, length-append old so.new) in
-    let fits : list_fits (list (items_of x.kept)) ≡ true =
+    let fits : is_bounded (list (items_of x.kept)) ≡ true =
     few_fit x.kept (omega (arith, long, length-all_of (flat_value depth s) so.new x.kept x.mean)) in
     record {
       values = x.values;
       kept = list (items_of x.kept);
-      reads = values_end depth initial ts r x.values over x.begins;
+      reads =
+          values_end depth initial ts r x.values over
+          (begins-in s.exact u.exact depth initial ts x.values more.exact x.begins);
       within = x.begins.short;
       short = ap (λ k. nat_le k largest_exact)
           (same-count n (items_of x.values) (items_of x.kept) x.thin) ∙ fits;

@@ -1,6 +1,6 @@
 -- Whatever members are to come, they complete what was read and what was kept: for the loop of
 -- `thin_members`.
-use Rattle.std.proofs.Common.{◌≡◌, ◌-◌, ◌<◌, ◌≤◌, ◌++◌, ℕ, suc, Bool, true, false, List, []}
+use Rattle.std.proofs.Common.{Option, ◌≡◌, ◌-◌, ◌<◌, ◌≤◌, ◌++◌, ℕ, suc, Bool, true, false, List, []}
 use Rattle.std.proofs.Common.{◌∷◌, Some, None, length, drop, refl, sym, ap, subst, ◌∙◌, arith}
 use Rattle.std.proofs.Common.{◌⊎◌, inl, inr, not, append_assoc, append-nil, option_map, option_and_then}
 use Rattle.std.specs.BTreeMap.{insert_entry}
@@ -10,7 +10,8 @@ use Rattle.json.specs.Json.{read_key}
 use Rattle.json.specs.Token.{Token}
 use Rattle.std.proofs.lemmas.Option.{same_Some}
 use Rattle.json.proofs.Grammar.{read_key-shorter}
-use Rattle.jp_document.specs.Value.{Value, everywhere, list_fits}
+use Rattle.jp_document.specs.Value.{Value, everywhere}
+use Rattle.jp_flat.specs.Private.Bounded.{is_bounded}
 use Rattle.jp_document.specs.Value.{members_of, names_rise, object}
 use Rattle.jp_document.proofs.Members.ByName.{bytes_cmp, names_of-members_of}
 use Rattle.jp_flat.specs.Asked.{IsThinned, is_leaf, is_name}
@@ -25,14 +26,14 @@ use Rattle.jp_flat.specs.Private.Tokens.{ReadsName, said}
 use Rattle.jp_flat.specs.declared.item.Item.{Item}
 use Rattle.jp_flat.specs.declared.item.Named.{Named}
 use Rattle.jp_flat.specs.declared.token.Spelled.{Spelled}
-use Rattle.jp_flat.proofs.Ahead.{MembersAhead, ahead_member, ahead_members_end}
+use Rattle.jp_flat.proofs.Ahead.{MembersAhead, ahead-in, ahead_member, ahead_members_end}
 use Rattle.jp_flat.proofs.Growth.{all_of_grows, all_of_push, grows_on, grows_same}
 use Rattle.jp_flat.proofs.Growth.{member_grows, value_grows}
 use Rattle.jp_flat.proofs.Loops.{above_said, cut_back}
 use Rattle.jp_flat.proofs.Names.{Pair, put_all-push, rise-push}
 use Rattle.jp_flat.proofs.Thinned.{LeavesPairs, leaves-members, put-both, put-left}
 use Rattle.jp_flat.proofs.Thinned.LeavesPairs.{none}
-use Rattle.jp_flat.specs.Private.Integer.{whole_number}
+use Rattle.jp_document.specs.NumberTexts.{numbers_of}
 
 -- the members so far, with what is kept of them behind the old ones, and the members to come
 pub record KeptMembers (n : List ℕ) (depth : ℕ) (initial ts : List Token) (before now : Shown)
@@ -41,7 +42,7 @@ pub record KeptMembers (n : List ℕ) (depth : ℕ) (initial ts : List Token) (b
   pub enough : length ts ≤ rounds
   pub shorter : length ts ≤ length initial
   pub found : List Pair
-  pub ahead : MembersAhead whole_number depth initial rounds ts (put_all [] found)
+  pub ahead : MembersAhead (numbers_of now.exact) depth initial rounds ts (put_all [] found)
   pub kept : List Pair
   pub less : LeavesPairs n (put_all [] found) (put_all [] kept)
   pub new : List Named
@@ -69,8 +70,8 @@ kept_members-begin n depth ts t base old at = record {
   grows = grows_same t;
 }
 
-found-rise : (depth : ℕ) (initial : List Token) (n : ℕ) (ts : List Token) (found : List Pair)
-    → MembersAhead whole_number depth initial n ts found → names_rise (keys_of found) ≡ true
+found-rise : {N : List ℕ → Option Value} (depth : ℕ) (initial : List Token) (n : ℕ) (ts : List Token) (found : List Pair)
+    → MembersAhead N depth initial n ts found → names_rise (keys_of found) ≡ true
 found-rise depth initial n ts found so =
     ap names_rise (sym (names_of-members_of found)) ∙ so.rise
 
@@ -108,10 +109,14 @@ kept_members-more n depth initial ts a r t s w u base rises still old all name m
       shorter = omega (arith, so.shorter);
       found = so.found ++ (name, x.value) ∷ [];
       ahead =
-          subst (MembersAhead whole_number depth initial (so.rounds - 1) r)
+          ahead-in w.exact u.exact depth initial (so.rounds - 1) r
+          (put_all [] (so.found ++ (name, x.value) ∷ [])) two.exact
+          (subst (MembersAhead (numbers_of w.exact) depth initial (so.rounds - 1) r)
           (sym (put_all-push [] so.found (name, x.value)))
           (ahead_member depth initial so.rounds name ts a r (put_all [] so.found) x.value
-          (omega (arith, so.enough)) key x.reads x.short so.ahead);
+          (omega (arith, so.enough)) key x.reads x.short
+          (ahead-in s.exact w.exact depth initial so.rounds ts (put_all [] so.found) one.exact
+          so.ahead)));
       kept = so.kept ++ (name, x.kept) ∷ [];
       less =
           subst (λ ms. LeavesPairs n ms (put_all [] (so.kept ++ (name, x.kept) ∷ [])))
@@ -136,8 +141,8 @@ nothing old (x ∷ new) same = absurd (omega (arith, same, length-append old (x 
 -- a member that is left out, where none is kept
 pub kept_members-left : (n : List ℕ) (depth : ℕ) (initial ts a r : List Token) (t s w : Shown)
     (base : ℕ) (rises still : Bool) (old all : List Named) (name : List ℕ) (v : Value)
-    → read_key ts ≡ Some (Some name, a) → length r < length ts → ReadsValue whole_number depth a r v
-    → everywhere list_fits v ≡ true → is_name n name ≡ false → is_leaf v ≡ true
+    → read_key ts ≡ Some (Some name, a) → length r < length ts → ReadsValue (numbers_of w.exact) depth a r v
+    → everywhere is_bounded v ≡ true → is_name n name ≡ false → is_leaf v ≡ true
     → Grows s w → length all ≡ base → still ≡ rises
     → KeptMembers n depth initial ts t s base rises old all
     → KeptMembers n depth initial r t w base still old all
@@ -157,10 +162,12 @@ kept_members-left n depth initial ts a r t s w base rises still old all name v k
       shorter = omega (arith, so.shorter);
       found = so.found ++ (name, v) ∷ [];
       ahead =
-          subst (MembersAhead whole_number depth initial (so.rounds - 1) r)
+          subst (MembersAhead (numbers_of w.exact) depth initial (so.rounds - 1) r)
           (sym (put_all-push [] so.found (name, v)))
           (ahead_member depth initial so.rounds name ts a r (put_all [] so.found) v
-          (omega (arith, so.enough)) key x short so.ahead);
+          (omega (arith, so.enough)) key x short
+          (ahead-in s.exact w.exact depth initial so.rounds ts (put_all [] so.found) more.exact
+          so.ahead));
       kept = [];
       less =
           subst (λ ms. LeavesPairs n ms []) (sym (put_all-push [] so.found (name, v))) left;
@@ -176,14 +183,14 @@ pub kept_members-end : (n : List ℕ) (depth : ℕ) (initial ts r : List Token) 
     (rises : Bool) (old all : List Named) (i : Item) → read_key ts ≡ Some (None, r)
     → ((k : ℕ) (ms : List Pair) → (rises ≡ true → names_rise (keys_of ms) ≡ true)
     → all_of (member_with (flat_value k s) s) (drop base all) ≡ Some ms
-    → flat_value (suc k) u i ≡ Some (object (members_of (put_all [] ms))))
+    → flat_value (suc k) u i ≡ Some (object (members_of (put_all [] ms)))) → Grows s u
     → KeptMembers n depth initial ts t s base rises old all
     → KeepsFlatMembers (IsThinned n) depth initial r u i
-kept_members-end n depth initial ts r t s u base rises old all i over closed so = record {
+kept_members-end n depth initial ts r t s u base rises old all i over closed more so = record {
   members = put_all [] so.found;
   kept = object (members_of (put_all [] so.kept));
   reads = ahead_members_end depth initial so.rounds ts r (put_all [] so.found) so.enough over
-      so.ahead;
+      (ahead-in s.exact u.exact depth initial so.rounds ts (put_all [] so.found) more.exact so.ahead);
   within = so.ahead.short;
   keeps = in_object (members_of (put_all [] so.found)) (members_of (put_all [] so.kept))
       (leaves-members n (put_all [] so.found) (put_all [] so.kept) so.less);
@@ -230,7 +237,9 @@ kept_members-put n depth initial ts a r t s w u base rises still spare old all m
     let less = read_key-shorter ts (Some k) a key in
     subst (KeptMembers n depth initial r t u base still old) (sym left.same)
     (kept_members-left n depth initial ts a r t s u base rises still old all k x.value key
-    (omega (arith, less, short)) x.reads x.short gone.0.other gone.1 (grows_on s w u one two)
+    (omega (arith, less, short))
+    (subst (λ e. ReadsValue (numbers_of e) depth a r x.value) (sym two.exact) x.reads) x.short
+    gone.0.other gone.1 (grows_on s w u one two)
     left.alone left.rise so)
 kept_members-put n depth initial ts a r t s w u base rises still spare old all more name i named short x
     one two (inr put) so =

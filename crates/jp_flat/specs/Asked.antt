@@ -5,7 +5,7 @@ use Rattle.std.specs.Cmp.Lexicographic.{slice_cmp}
 use Rattle.std.specs.Ordering.{is_eq, nat_cmp}
 use Rattle.std.specs.declared.alloc.Global.{Global}
 use Rattle.jp_document.specs.Document.{IsDocument}
-use Rattle.jp_document.specs.Value.{Value, null, boolean, whole, text, list, object}
+use Rattle.jp_document.specs.Value.{Value, null, boolean, whole, decimal, text, list, object}
 use Rattle.jp_document.specs.Value.{Items, no_items, item, Members, no_members, member}
 use Rattle.jp_flat.specs.FlatValue.{document_in}
 use Rattle.jp_flat.specs.declared.asked.AskedFor.{AskedFor}
@@ -47,6 +47,7 @@ abbrev pub is_leaf : Value → Bool
 is_leaf null = true
 is_leaf (boolean b) = true
 is_leaf (whole z) = true
+is_leaf (decimal c e) = true
 is_leaf (text s) = true
 is_leaf (list vs) = false
 is_leaf (object ms) = false

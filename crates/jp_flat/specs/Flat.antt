@@ -2,6 +2,9 @@
 use Rattle.std.specs.Prelude.{◌≡◌, ◌+◌, ◌-◌, ◌*◌, ◌^◌, ◌&&◌, ◌++◌, ℕ, suc, zero, pos, negsuc, Bool}
 use Rattle.std.specs.Prelude.{List, [], ◌∷◌, Option, Some, None, cond, nat_le, length, take, drop}
 use Rattle.std.specs.Prelude.{option_map, option_and_then, string_bytes, unwrap_or, is_some}
+use Rattle.jp_decimal.specs.TextValue.{value_of_text}
+use Rattle.jp_document.specs.NumberValue.{number_value}
+use Rattle.jp_document.specs.OfJson.{most_levels}
 use Rattle.jp_document.specs.Value.{Value, null, boolean, whole, text, list, object}
 use Rattle.jp_document.specs.Value.{items_of, members_of, everywhere, is_allowed}
 use Rattle.jp_flat.specs.declared.item.Halves.{Halves}
@@ -12,12 +15,13 @@ use Rattle.jp_flat.specs.declared.item.Span.{Span}
 use Rattle.jp_flat.specs.declared.tables.Tables.{Tables}
 
 -- what tables hold: the document's text, the texts that are spelled otherwise in it, the items of
--- lists and the members of objects
+-- lists and the members of objects; and whether numbers that are not whole are taken
 pub record Shown : Type 0 where
   pub source : List ℕ
   pub spare : List ℕ
   pub items : List Item
   pub members : List Named
+  pub exact : Bool
 
 abbrev pub shown : Tables → Shown
 shown t = record {
@@ -25,6 +29,7 @@ shown t = record {
   spare = string_bytes t.spare;
   items = t.items.items;
   members = t.members.items;
+  exact = t.exact;
 }
 
 -- so many entries from the first on, if they are all there
@@ -58,6 +63,8 @@ value_with f t code.Null = Some null
 value_with f t (code.Bool b) = Some (boolean b)
 value_with f t (code.Above h) = Some (whole (pos (number_of h)))
 value_with f t (code.Below h) = Some (whole (negsuc (number_of h)))
+value_with f t (code.Numeral s) =
+    option_map (λ x. number_value (value_of_text x)) (text_at t s)
 value_with f t (code.Text s) = option_map text (text_at t s)
 value_with f t (code.List s) =
     option_map (λ vs. list (items_of vs))
@@ -78,10 +85,6 @@ meaning_at n t i = unwrap_or (flat_value n t i) null
 -- the item has a value with so many levels, and it may be a document's
 abbrev pub is_flat_at : ℕ → Shown → Item → Bool
 is_flat_at n t i = is_some (flat_value n t i) && everywhere is_allowed (meaning_at n t i)
-
--- the most levels of a document
-abbrev pub most_levels : ℕ
-most_levels = 127
 
 -- the value of an item of a document
 abbrev pub meaning : Shown → Item → Value
@@ -111,6 +114,7 @@ pub record IsOwned (before after : Shown) : Type 0 where
 
 -- the later tables hold what the earlier ones hold, where it stands there
 pub record Grows (before after : Shown) : Type 0 where
+  pub exact : after.exact ≡ before.exact
   pub source : after.source ≡ before.source
   pub spare : BeginsWith after.spare before.spare
   pub items : BeginsWith after.items before.items

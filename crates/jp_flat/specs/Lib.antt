@@ -2,6 +2,5 @@
 pub mod Asked
 pub mod Flat
 pub mod FlatValue
-pub mod OfJson
 pub mod Private
 pub mod Room

@@ -1,6 +1,7 @@
 -- How a document is read into tables, and looked up there. The contracts of private functions alone
 -- cite it.
 pub mod Escapes
+pub mod Bounded
 pub mod Found
 pub mod FromTokens
 pub mod Fronts
@@ -11,4 +12,5 @@ pub mod NoJson
 pub mod Parts
 pub mod Reading
 pub mod Sorting
+pub mod Taken
 pub mod Tokens

@@ -1,9 +1,10 @@
 //! What a query asks of a document, where it asks only for some of its members, and reading no more of
 //! the document into tables.
 
-ghost use Rattle.std.specs.Prelude.{◌≡◌, IfSome};
+ghost use Rattle.std.specs.Prelude.{◌≡◌, IfSome, OnSome};
 ghost use Rattle.jp_flat.specs.Asked.{IsKept};
-ghost use Rattle.jp_flat.specs.Flat.{most_levels, shown};
+ghost use Rattle.jp_flat.specs.Flat.{shown};
+ghost use Rattle.jp_document.specs.OfJson.{most_levels};
 ghost use Rattle.jp_flat.specs.Private.Kept.{KeepsFlat, KeepsFlatText};
 
 use crate::cursor::Cursor;
@@ -30,7 +31,8 @@ pub(crate) fn kept_root(
     pending: &mut Pending,
     asked: &AskedFor,
 ) -> Option<Item>
-    ensures { IfSome result (KeepsFlatText asked.now tables.old.text.now (shown tables.new)) }
+    ensures keeps { IfSome result (KeepsFlatText asked.now tables.old.text.now (shown tables.new)) }
+    ensures exact { OnSome result (tables.new.exact ≡ tables.old.exact) }
 {
     let mut reader = Cursor::new(tables.text.as_bytes());
     let item = kept_value(tables, pending, &mut reader, asked)?;
@@ -45,8 +47,9 @@ fn kept_value(
     asked: &AskedFor,
 ) -> Option<Item>
     requires { reader.old.text ≡ tables.old.text.now }
-    ensures { IfSome result (KeepsFlat (IsKept asked.now) most_levels reader.old.tokens
+    ensures keeps { IfSome result (KeepsFlat (IsKept asked.now) most_levels reader.old.tokens
         reader.new.tokens (shown tables.new)) }
+    ensures exact { OnSome result (tables.new.exact ≡ tables.old.exact) }
 {
     match asked {
         AskedFor::OfRoot(names) => {

@@ -49,7 +49,7 @@ impl<'t> Model for Cursor<'t> {
 }
 
 impl<'t> Cursor<'t> {
-    /// The start of a text.
+    /// The start of a text, in which numbers that are not whole are tokens if `exact` says so.
     pub(crate) fn new(bytes: &'t [u8]) -> Cursor<'t>
         ensures tokens { result.tokens ≡ tokens bytes.now }
         ensures text { result.text ≡ bytes.now }
@@ -83,14 +83,14 @@ impl<'t> Cursor<'t> {
     /// The next token. None where there is none, and where the text is no JSON of whole numbers; a
     /// text whose escapes are none is found only where it is unescaped.
     #[inline(always)]
-    pub(crate) fn next(&mut self) -> Option<Token<'t>>
+    pub(crate) fn next<const EXACT: bool>(&mut self) -> Option<Token<'t>>
         ensures reads { IfSome result (λ t. is_good (token_of t) ≡ true
             → self.old.tokens ≡ token_of t ∷ self.new.tokens) }
         ensures stands { IfSome result (TokenHolds self.old.text) }
         ensures same { IfNone result (self.new ≡ self.old) }
         ensures text { self.new.text ≡ self.old.text }
     {
-        let (token, point) = token_at(self.bytes, self.point)?;
+        let (token, point) = token_at::<EXACT>(self.bytes, self.point)?;
         self.point.at = point.at;
         self.point.expected = point.expected;
         Some(token)
@@ -103,7 +103,7 @@ impl<'t> Cursor<'t> {
         ensures stands { IfSome result (λ o. IfSome o (IsSpelledIn self.old.text)) }
         ensures text { self.new.text ≡ self.old.text }
     {
-        let token = self.next()?;
+        let token = self.next::<false>()?;
         match token {
             Token::Key(name) => Some(Some(name)),
             Token::EndObject => Some(None),

@@ -47,7 +47,7 @@ pub(crate) fn find(
 {
     match location {
         Some([]) => {
-            let item = lone_value(tables, pending, reader, depth)?;
+            let item = lone_value::<false>(tables, pending, reader, depth)?;
             Some(Some(item))
         }
         Some([step, rest @ ..]) => {
@@ -80,7 +80,7 @@ fn find_inside(
     ensures shorter { OnSome result (length reader.new.tokens < length reader.old.tokens) }
     ensures text { reader.new.text ≡ reader.old.text }
 {
-    let token = reader.next()?;
+    let token = reader.next::<false>()?;
     match token {
         Token::BeginArray if depth > 0 => {
             let found = find_item(tables, pending, reader, depth - 1, sought)?;
@@ -91,7 +91,7 @@ fn find_inside(
             Some(found)
         }
         _ => {
-            leaf(tables, token)?;
+            leaf::<false>(tables, token)?;
             Some(None)
         }
     }

@@ -4,6 +4,7 @@ ghost use Rattle.std.specs.Prelude.{◌≡◌, [], true, IfOk, IfSome, OnSome, S
 ghost use Rattle.jp_document.specs.Document.{IsDocument};
 ghost use Rattle.jp_document.specs.Location.{owned_step};
 ghost use Rattle.jp_flat.specs.Flat.{is_flat, meaning, shown};
+ghost use Rattle.jp_document.specs.Exact.{IsDocumentBy, IsExactDocument};
 ghost use Rattle.jp_flat.specs.Private.Reading.{ReadsFlatText};
 ghost use Rattle.jp_flat.specs.Room.{IsIdle};
 
@@ -156,11 +157,26 @@ impl Room {
     pub fn read(self, bytes: &[u8]) -> Result<Flat<'_>, Room>
         ensures { IfOk result (λ f. IsDocument bytes.now (document_in f)) }
     {
+        self.read_by(bytes, false)
+    }
+
+    /// The document that these bytes are where its numbers are exact decimals (RFC 8259 section 6):
+    /// each is what its text writes, in at most 38 digits and a power of ten from -1,000,000 to
+    /// 1,000,000. An `Err` gives the memory back and says nothing of the bytes, as that of `read`.
+    pub fn read_exact(self, bytes: &[u8]) -> Result<Flat<'_>, Room>
+        ensures { IfOk result (λ f. IsExactDocument bytes.now (document_in f)) }
+    {
+        self.read_by(bytes, true)
+    }
+
+    fn read_by(self, bytes: &[u8], exact: bool) -> Result<Flat<'_>, Room>
+        ensures { IfOk result (λ f. IsDocumentBy exact bytes.now (document_in f)) }
+    {
         let Ok(text) = simdutf8::basic::from_utf8(bytes) else {
             return Err(self);
         };
         let mut pending = self.pending;
-        let mut tables = Tables::of(text, self.spare, self.items, self.members);
+        let mut tables = Tables::of(text, self.spare, self.items, self.members, exact);
         tables.reserve(parts_in(bytes, 64));
         pending.reserve(parts_in(bytes, 16));
         let read = root(&mut tables, &mut pending);
@@ -183,7 +199,7 @@ impl Room {
             return Err(self);
         };
         let mut pending = self.pending;
-        let mut tables = Tables::of(text, self.spare, self.items, self.members);
+        let mut tables = Tables::of(text, self.spare, self.items, self.members, false);
         tables.reserve(parts_in(bytes, 64));
         pending.reserve(parts_in(bytes, 16));
         let read = kept_root(&mut tables, &mut pending, asked);
@@ -207,7 +223,7 @@ impl Room {
             return Err(self);
         };
         let mut pending = self.pending;
-        let mut tables = Tables::of(text, self.spare, self.items, self.members);
+        let mut tables = Tables::of(text, self.spare, self.items, self.members, false);
         let Some(found) = value_in(&mut tables, &mut pending, location) else {
             return Err(Room::of(tables, pending));
         };
@@ -224,9 +240,14 @@ impl Room {
 
 /// Reads the value of a whole text.
 fn root(tables: &mut Tables<'_>, pending: &mut Pending) -> Option<Item>
-    ensures { IfSome result (ReadsFlatText tables.old.text.now (shown tables.new)) }
+    ensures reads { IfSome result (ReadsFlatText tables.old.text.now (shown tables.new)) }
+    ensures exact { OnSome result (tables.new.exact ≡ tables.old.exact) }
 {
     let mut reader = Cursor::new(tables.text.as_bytes());
-    let item = lone_value(tables, pending, &mut reader, MAX_DEPTH)?;
+    let item = if tables.exact {
+        lone_value::<true>(tables, pending, &mut reader, MAX_DEPTH)?
+    } else {
+        lone_value::<false>(tables, pending, &mut reader, MAX_DEPTH)?
+    };
     if reader.is_done() { Some(item) } else { None }
 }

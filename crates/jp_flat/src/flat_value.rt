@@ -8,6 +8,7 @@ ghost use Rattle.jp_flat.specs.declared.item.Item.TheVariants.{Members};
 ghost use Rattle.jp_lent.specs.Lending.{bare, entry_value, seen_value};
 
 use crate::item::{Item, Span};
+use crate::numeral::seen_numeral;
 use crate::parts::{first_named, item_at, member_at, members, name_order, text_at};
 use crate::tables::Tables;
 use jp_document::Step;
@@ -46,6 +47,7 @@ impl<'d, 't> FlatValue<'d, 't> {
             Item::Bool(truth) => Seen::Bool(truth),
             Item::Above(halves) => Seen::Whole(halves.above()),
             Item::Below(halves) => Seen::Whole(halves.below()),
+            Item::Numeral(span) => seen_numeral(self.tables, span),
             Item::Text(span) => Seen::Text(text_at(self.tables, span)),
             Item::List(_) => Seen::List,
             Item::Members(_) => Seen::Members,
@@ -59,7 +61,12 @@ impl<'d, 't> FlatValue<'d, 't> {
     {
         match self.item {
             Item::List(span) | Item::Members(span) => span.count as usize,
-            Item::Null | Item::Bool(_) | Item::Above(_) | Item::Below(_) | Item::Text(_) => 0,
+            Item::Null
+            | Item::Bool(_)
+            | Item::Above(_)
+            | Item::Below(_)
+            | Item::Numeral(_)
+            | Item::Text(_) => 0,
         }
     }
 
@@ -73,6 +80,7 @@ impl<'d, 't> FlatValue<'d, 't> {
             | Item::Bool(_)
             | Item::Above(_)
             | Item::Below(_)
+            | Item::Numeral(_)
             | Item::Text(_)
             | Item::Members(_) => None,
         }
@@ -93,7 +101,12 @@ impl<'d, 't> FlatValue<'d, 't> {
                 Some((Step::Index(position as u64), FlatValue { tables, item }))
             }
             Item::Members(span) => FlatValue::member_entry(tables, span, position),
-            Item::Null | Item::Bool(_) | Item::Above(_) | Item::Below(_) | Item::Text(_) => None,
+            Item::Null
+            | Item::Bool(_)
+            | Item::Above(_)
+            | Item::Below(_)
+            | Item::Numeral(_)
+            | Item::Text(_) => None,
         }
     }
 
@@ -114,7 +127,12 @@ impl<'d, 't> FlatValue<'d, 't> {
                 let item = member_at(tables, span, position)?.item;
                 Some(FlatValue { tables, item })
             }
-            Item::Null | Item::Bool(_) | Item::Above(_) | Item::Below(_) | Item::Text(_) => None,
+            Item::Null
+            | Item::Bool(_)
+            | Item::Above(_)
+            | Item::Below(_)
+            | Item::Numeral(_)
+            | Item::Text(_) => None,
         }
     }
 
@@ -129,6 +147,7 @@ impl<'d, 't> FlatValue<'d, 't> {
             | Item::Bool(_)
             | Item::Above(_)
             | Item::Below(_)
+            | Item::Numeral(_)
             | Item::Text(_)
             | Item::Members(_) => None,
         }
@@ -150,6 +169,7 @@ impl<'d, 't> FlatValue<'d, 't> {
             | Item::Bool(_)
             | Item::Above(_)
             | Item::Below(_)
+            | Item::Numeral(_)
             | Item::Text(_)
             | Item::List(_) => None,
         }

@@ -40,13 +40,14 @@ impl Halves {
 }
 
 /// A value: itself, or where its bytes or its parts stand. `Above` is a whole number from 0 on,
-/// `Below` one below 0, by how far it is below -1.
+/// `Below` one below 0, by how far it is below -1, and `Numeral` any number by its characters.
 #[derive(Clone, Copy)]
 pub(crate) enum Item {
     Null,
     Bool(bool),
     Above(Halves),
     Below(Halves),
+    Numeral(Span),
     Text(Span),
     List(Span),
     Members(Span),

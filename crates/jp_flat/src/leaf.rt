@@ -11,13 +11,17 @@ use crate::cursor::Cursor;
 use crate::item::Item;
 use crate::moving::put;
 use crate::number::number;
+use crate::numeral::numeral;
 use crate::spans::text_span;
 use crate::tables::Tables;
 use crate::token::Token;
 
 /// Reads the values at the front of a list that have no parts, behind the items of the tables, and
 /// answers the token behind them.
-pub(crate) fn leaves<'a>(tables: &mut Tables<'_>, reader: &mut Cursor<'a>) -> Option<Token<'a>>
+pub(crate) fn leaves<'a, const EXACT: bool>(
+    tables: &mut Tables<'_>,
+    reader: &mut Cursor<'a>,
+) -> Option<Token<'a>>
     requires { reader.old.text ≡ tables.old.text.now }
     ensures reads { IfSome result (λ t. ReadsLeaves reader.old.tokens (token_of t ∷ reader.new.tokens)
         (shown tables.old) (shown tables.new)) }
@@ -26,11 +30,11 @@ pub(crate) fn leaves<'a>(tables: &mut Tables<'_>, reader: &mut Cursor<'a>) -> Op
     ensures text { reader.new.text ≡ reader.old.text }
 {
     'leaves: loop {
-        let token = reader.next()?;
+        let token = reader.next::<EXACT>()?;
         match token {
             Token::EndArray | Token::BeginArray | Token::BeginObject => return Some(token),
             _ => {
-                let item = leaf(tables, token)?;
+                let item = leaf::<EXACT>(tables, token)?;
                 put(&mut tables.items, item)?;
             }
         }
@@ -39,7 +43,7 @@ pub(crate) fn leaves<'a>(tables: &mut Tables<'_>, reader: &mut Cursor<'a>) -> Op
 
 /// The value of a token alone, with its text in the tables.
 #[inline(always)]
-pub(crate) fn leaf(tables: &mut Tables<'_>, token: Token<'_>) -> Option<Item>
+pub(crate) fn leaf<const EXACT: bool>(tables: &mut Tables<'_>, token: Token<'_>) -> Option<Item>
     requires { TokenHolds tables.old.text.now token }
     ensures leaf { IfSome result (ReadsLeaf (token_of token.entry) (shown tables.new)) }
     ensures bare { IfSome result (IsBare (shown tables.new)) }
@@ -52,6 +56,13 @@ pub(crate) fn leaf(tables: &mut Tables<'_>, token: Token<'_>) -> Option<Item>
         Token::Bool(truth) => Some(Item::Bool(truth)),
         Token::Number(text, size) => {
             let item = number(text, size)?;
+            Some(item)
+        }
+        Token::Numeral(first, text) => {
+            if !EXACT {
+                return None;
+            }
+            let item = numeral(tables, first, text)?;
             Some(item)
         }
         Token::Text(text) => {

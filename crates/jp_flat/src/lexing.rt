@@ -1,12 +1,15 @@
-//! The token at an offset (RFC 8259 sections 2, 3 and 6): whole numbers are the only ones.
+//! The token at an offset (RFC 8259 sections 2, 3 and 6). Numbers are whole ones, unless they are read
+//! exactly.
 
-ghost use Rattle.std.specs.Prelude.{◌≡◌, ◌≤◌, ◌<◌, ◌+◌, ◌-◌, ◌==◌, ◌⊎◌, IfSome, OnSome, drop, length};
+ghost use Rattle.std.specs.Prelude.{◌≡◌, ◌≤◌, ◌<◌, ◌+◌, ◌-◌, ◌==◌, ◌⊎◌, IfSome, OnSome, Some, drop, length};
 ghost use Rattle.std.specs.Prelude.{slice_index, take, true, false};
 ghost use Rattle.json.specs.Lex.{after_value, begins_colon, between, fresh, lex, may_begin};
 ghost use Rattle.json.specs.Lex.{punctuate};
-ghost use Rattle.json.specs.Word.{after_minus};
+ghost use Rattle.json.specs.Word.{after_digits, after_exponent, after_fraction, after_minus, after_sign};
+ghost use Rattle.json.specs.Word.{after_whole};
 ghost use Rattle.jp_flat.specs.Private.Tokens.{EndsWhole, GivesToken, IsLiteral, TokenHolds};
-ghost use Rattle.jp_flat.specs.Private.Tokens.{token_of, tokens_from, expected_of};
+ghost use Rattle.jp_flat.specs.Private.Tokens.{IsSized, token_of, tokens_from, expected_of};
+ghost use Rattle.json.specs.Token.{Token as JsonToken};
 
 use crate::blanks::{ends_whole, past_blanks};
 use crate::cursor::{Expected, Point, may_begin, may_close};
@@ -15,7 +18,10 @@ use crate::token::Token;
 
 /// The token at an offset, and where the text goes on behind it.
 #[inline(always)]
-pub(crate) fn token_at<'t>(bytes: &'t [u8], from: Point) -> Option<(Token<'t>, Point)>
+pub(crate) fn token_at<'t, const EXACT: bool>(
+    bytes: &'t [u8],
+    from: Point,
+) -> Option<(Token<'t>, Point)>
     requires { from.at ≤ length bytes.now }
     ensures gives { IfSome result (λ r. GivesToken bytes.now from (token_of r.0) r.1) }
     ensures stands { IfSome result (λ r. TokenHolds bytes.now r.0) }
@@ -51,7 +57,7 @@ pub(crate) fn token_at<'t>(bytes: &'t [u8], from: Point) -> Option<(Token<'t>, P
         b'n' if has_four(bytes, from.at, *b"null") => {
             literal(bytes, from, from.at + 4, Token::Null)
         }
-        _ => number(bytes, from),
+        _ => number::<EXACT>(bytes, from),
     }
 }
 
@@ -246,7 +252,7 @@ fn word_passed(bytes: &[u8], end: usize) -> Option<Point>
 }
 
 #[inline(always)]
-fn number<'t>(bytes: &'t [u8], from: Point) -> Option<(Token<'t>, Point)>
+fn number<'t, const EXACT: bool>(bytes: &'t [u8], from: Point) -> Option<(Token<'t>, Point)>
     requires inside { from.at < length bytes.now }
     requires begins { may_begin (expected_of from.expected) ≡ true }
     ensures gives { IfSome result (λ r. GivesToken bytes.now from (token_of r.0) r.1) }
@@ -258,8 +264,90 @@ fn number<'t>(bytes: &'t [u8], from: Point) -> Option<(Token<'t>, Point)>
     if !is_whole(bytes, first, end) {
         return None;
     }
-    let point = word_passed(bytes, end)?;
-    Some((Token::Number(&bytes[from.at..end], size), point))
+    let Some(point) = word_passed(bytes, end) else {
+        return if EXACT {
+            numeral(bytes, from, end)
+        } else {
+            None
+        };
+    };
+    Some((whole::<EXACT>(bytes, from.at, end, size), point))
+}
+
+/// The whole number between two offsets, where numbers are taken exactly by its characters if it has more
+/// than 18 or may be -0.
+#[inline(always)]
+fn whole<const EXACT: bool>(bytes: &[u8], from: usize, end: usize, size: u64) -> Token<'_>
+    requires within { (from ≤ end) × (end ≤ length bytes.now) }
+    requires sized { IsSized (take (end - from) (drop from bytes.now)) size }
+    ensures token { token_of result ≡ JsonToken.number (take (end - from) (drop from bytes.now)) }
+    ensures holds { TokenHolds bytes.now result }
+{
+    let characters = &bytes[from..end];
+    if EXACT && (end - from > 18 || (size == 0 && end - from == 2)) {
+        return Token::Numeral(from, characters);
+    }
+    Token::Number(characters, size)
+}
+
+/// The number that goes on behind its whole part, with a point or an exponent.
+#[inline(never)]
+fn numeral<'t>(bytes: &'t [u8], from: Point, whole: usize) -> Option<(Token<'t>, Point)>
+    requires inside { (from.at ≤ whole) × (whole ≤ length bytes.now) }
+    requires begins { may_begin (expected_of from.expected) ≡ true }
+    requires whole { after_whole (after_minus (drop from.at bytes.now)) ≡ Some (drop whole bytes.now) }
+    ensures gives { IfSome result (λ r. GivesToken bytes.now from (token_of r.0) r.1) }
+    ensures stands { IfSome result (λ r. TokenHolds bytes.now r.0) }
+    ensures within { IfSome result (λ r. r.1.at ≤ length bytes.now) }
+{
+    let point = past_fraction(bytes, whole)?;
+    let end = past_exponent(bytes, point)?;
+    let next = word_passed(bytes, end)?;
+    Some((Token::Numeral(from.at, &bytes[from.at..end]), next))
+}
+
+fn past_fraction(bytes: &[u8], at: usize) -> Option<usize>
+    requires { at ≤ length bytes.now }
+    ensures after { IfSome result (λ e. after_fraction (drop at bytes.now) ≡ Some (drop e bytes.now)) }
+    ensures within { IfSome result (λ e. (at ≤ e) × (e ≤ length bytes.now)) }
+{
+    if at < bytes.len() && bytes[at] == b'.' {
+        return past_digits(bytes, at + 1);
+    }
+    Some(at)
+}
+
+fn past_exponent(bytes: &[u8], at: usize) -> Option<usize>
+    requires { at ≤ length bytes.now }
+    ensures after { IfSome result (λ e. after_exponent (drop at bytes.now) ≡ Some (drop e bytes.now)) }
+    ensures within { IfSome result (λ e. (at ≤ e) × (e ≤ length bytes.now)) }
+{
+    if at < bytes.len() && (bytes[at] == b'e' || bytes[at] == b'E') {
+        let first = past_sign(bytes, at + 1);
+        return past_digits(bytes, first);
+    }
+    Some(at)
+}
+
+fn past_sign(bytes: &[u8], at: usize) -> usize
+    requires { at ≤ length bytes.now }
+    ensures after { after_sign (drop at bytes.now) ≡ drop result bytes.now }
+    ensures within { (at ≤ result) × (result ≤ length bytes.now) }
+{
+    if at < bytes.len() && (bytes[at] == b'-' || bytes[at] == b'+') {
+        at + 1
+    } else {
+        at
+    }
+}
+
+fn past_digits(bytes: &[u8], at: usize) -> Option<usize>
+    requires { at ≤ length bytes.now }
+    ensures after { IfSome result (λ e. after_digits (drop at bytes.now) ≡ Some (drop e bytes.now)) }
+    ensures within { IfSome result (λ e. (at ≤ e) × (e ≤ length bytes.now)) }
+{
+    let (end, _) = digits_end(bytes, at);
+    if at < end { Some(end) } else { None }
 }
 
 #[inline(always)]

@@ -3,7 +3,8 @@
 //!
 //! `flat_document` reads one, `Flat::value` is its value, and a `FlatValue` is a `Lent` one. A `Room`
 //! takes the memory from one document to the next: `Room::read_at` reads a document for the one value
-//! at a location, and `Room::read_asked` for what a query asks of it:
+//! at a location, `Room::read_asked` for what a query asks of it, and `Room::read_exact` one whose
+//! numbers may be decimals:
 //!
 //! ```text
 //! let flat = flat_document(alloc, b"{\"a\":[1,2]}")?;
@@ -33,12 +34,14 @@ mod form;
 mod integer;
 mod item;
 mod key;
+pub mod laws;
 mod leaf;
 mod lexing;
 mod met;
 mod moving;
 mod no_json;
 mod number;
+mod numeral;
 mod of_tree;
 mod parts;
 mod passing;

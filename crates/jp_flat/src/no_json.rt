@@ -84,7 +84,9 @@ fn kind_of(token: Token<'_>) -> Option<TokenKind>
             pass_text(text)?;
             Some(TokenKind::Leaf)
         }
-        Token::Number(_, _) | Token::Bool(_) | Token::Null => Some(TokenKind::Leaf),
+        Token::Number(_, _) | Token::Numeral(_, _) | Token::Bool(_) | Token::Null => Some(
+            TokenKind::Leaf,
+        ),
     }
 }
 
@@ -96,7 +98,7 @@ fn next(cursor: &mut Cursor<'_>) -> Option<TokenKind>
     ensures text { cursor.new.text ≡ cursor.old.text }
 {
     let before = cursor.point();
-    let token = cursor.next()?;
+    let token = cursor.next::<false>()?;
     match kind_of(token) {
         Some(kind) => Some(kind),
         None => {

@@ -38,7 +38,7 @@ pub(crate) fn put_value(
         }
         Json::List(items) if depth > 0 => put_items(tables, pending, items, depth - 1),
         Json::Members(members) if depth > 0 => put_members(tables, pending, members, depth - 1),
-        Json::List(_) | Json::Members(_) => None,
+        Json::Decimal { .. } | Json::List(_) | Json::Members(_) => None,
     }
 }
 

@@ -18,7 +18,7 @@ pub(crate) fn pass_value(reader: &mut Cursor<'_>, depth: usize) -> Option<()>
     ensures shorter { OnSome result (length reader.new.tokens < length reader.old.tokens) }
     ensures text { reader.new.text ≡ reader.old.text }
 {
-    let token = reader.next()?;
+    let token = reader.next::<false>()?;
     match token {
         Token::BeginArray => {
             let inside = depth.checked_sub(1)?;
@@ -79,6 +79,7 @@ fn pass_leaf(token: Token<'_>) -> Option<()>
         | Token::BeginObject
         | Token::EndArray
         | Token::EndObject
+        | Token::Numeral(_, _)
         | Token::Key(_) => None,
     }
 }

@@ -33,8 +33,9 @@ pub(crate) fn picked_list(
     ensures keeps { IfSome result (KeepsFlat (λ v u. u ≡ with_items_of (is_listed names.now) v) depth
         reader.old.tokens reader.new.tokens (shown tables.new)) }
     ensures text { reader.new.text ≡ reader.old.text }
+    ensures exact { OnSome result (tables.new.exact ≡ tables.old.exact) }
 {
-    let token = reader.next()?;
+    let token = reader.next::<false>()?;
     match token {
         Token::BeginArray => {
             let inside = depth.checked_sub(1)?;
@@ -42,7 +43,7 @@ pub(crate) fn picked_list(
             Some(list)
         }
         _ => {
-            let item = value_behind(tables, pending, reader, depth, token)?;
+            let item = value_behind::<false>(tables, pending, reader, depth, token)?;
             Some(item)
         }
     }
@@ -60,6 +61,7 @@ fn picked_items(
     ensures keeps { IfSome result (KeepsFlatItems (λ v u. u ≡ with_items_of (is_listed names.now) v)
         depth reader.old.tokens reader.new.tokens (shown tables.new)) }
     ensures text { reader.new.text ≡ reader.old.text }
+    ensures exact { OnSome result (tables.new.exact ≡ tables.old.exact) }
 {
     let base = pending.items.len();
     'items: while !reader.take_end_array() {
@@ -88,7 +90,7 @@ pub(crate) fn picked_object(
     ensures shorter { OnSome result (length reader.new.tokens < length reader.old.tokens) }
     ensures text { reader.new.text ≡ reader.old.text }
 {
-    let token = reader.next()?;
+    let token = reader.next::<false>()?;
     match token {
         Token::BeginObject => {
             let inside = depth.checked_sub(1)?;
@@ -96,7 +98,7 @@ pub(crate) fn picked_object(
             Some(object)
         }
         _ => {
-            let item = value_behind(tables, pending, reader, depth, token)?;
+            let item = value_behind::<false>(tables, pending, reader, depth, token)?;
             Some(item)
         }
     }
@@ -128,7 +130,7 @@ fn picked_members(
         }
         rises = still_rises(rises, tables, &pending.members, base, name);
         let span = text_span(tables, name)?;
-        let item = value(tables, pending, reader, depth)?;
+        let item = value::<false>(tables, pending, reader, depth)?;
         put(&mut pending.members, Named { name: span, item })?;
     }
     let object = close_object(

@@ -66,7 +66,7 @@ impl Pending {
 /// Reads one value, with its parts into the tables: a document's, or one that is sought in it. The code
 /// for values that are parts of others stands where they are read.
 #[inline(never)]
-pub(crate) fn lone_value(
+pub(crate) fn lone_value<const EXACT: bool>(
     tables: &mut Tables<'_>,
     pending: &mut Pending,
     reader: &mut Cursor<'_>,
@@ -80,12 +80,12 @@ pub(crate) fn lone_value(
     ensures shorter { OnSome result (length reader.new.tokens < length reader.old.tokens) }
     ensures text { reader.new.text ≡ reader.old.text }
 {
-    value(tables, pending, reader, depth)
+    value::<EXACT>(tables, pending, reader, depth)
 }
 
 /// The list or the object that begins with a token, one that is read apart from the others.
 #[inline(never)]
-pub(crate) fn lone_container(
+pub(crate) fn lone_container<const EXACT: bool>(
     tables: &mut Tables<'_>,
     pending: &mut Pending,
     reader: &mut Cursor<'_>,
@@ -101,12 +101,12 @@ pub(crate) fn lone_container(
     ensures shorter { OnSome result (length reader.new.tokens < length reader.old.tokens) }
     ensures text { reader.new.text ≡ reader.old.text }
 {
-    container(tables, pending, reader, depth, token)
+    container::<EXACT>(tables, pending, reader, depth, token)
 }
 
 /// The value that begins with a token, one that is read apart from the others.
 #[inline(always)]
-pub(crate) fn value_behind(
+pub(crate) fn value_behind<const EXACT: bool>(
     tables: &mut Tables<'_>,
     pending: &mut Pending,
     reader: &mut Cursor<'_>,
@@ -126,11 +126,11 @@ pub(crate) fn value_behind(
 {
     match token {
         Token::BeginArray | Token::BeginObject => {
-            let item = lone_container(tables, pending, reader, depth, token)?;
+            let item = lone_container::<EXACT>(tables, pending, reader, depth, token)?;
             Some(item)
         }
         _ => {
-            let item = leaf(tables, token)?;
+            let item = leaf::<EXACT>(tables, token)?;
             Some(item)
         }
     }
@@ -139,7 +139,7 @@ pub(crate) fn value_behind(
 /// Reads one value, with its parts into the tables.
 #[cycle(reading)]
 #[inline(always)]
-pub(crate) fn value(
+pub(crate) fn value<const EXACT: bool>(
     tables: &mut Tables<'_>,
     pending: &mut Pending,
     reader: &mut Cursor<'_>,
@@ -153,14 +153,14 @@ pub(crate) fn value(
     ensures shorter { OnSome result (length reader.new.tokens < length reader.old.tokens) }
     ensures text { reader.new.text ≡ reader.old.text }
 {
-    let token = reader.next()?;
+    let token = reader.next::<EXACT>()?;
     match token {
         Token::BeginArray | Token::BeginObject => {
-            let item = container(tables, pending, reader, depth, token)?;
+            let item = container::<EXACT>(tables, pending, reader, depth, token)?;
             Some(item)
         }
         _ => {
-            let item = leaf(tables, token)?;
+            let item = leaf::<EXACT>(tables, token)?;
             Some(item)
         }
     }
@@ -169,7 +169,7 @@ pub(crate) fn value(
 /// The list or the object that begins with a token.
 #[cycle(reading)]
 #[inline(always)]
-fn container(
+fn container<const EXACT: bool>(
     tables: &mut Tables<'_>,
     pending: &mut Pending,
     reader: &mut Cursor<'_>,
@@ -190,11 +190,11 @@ fn container(
     }
     match token {
         Token::BeginArray => {
-            let item = items(tables, pending, reader, depth - 1)?;
+            let item = items::<EXACT>(tables, pending, reader, depth - 1)?;
             Some(item)
         }
         Token::BeginObject => {
-            let item = members(tables, pending, reader, depth - 1)?;
+            let item = members::<EXACT>(tables, pending, reader, depth - 1)?;
             Some(item)
         }
         _ => None,
@@ -204,7 +204,7 @@ fn container(
 /// Reads the items of a list: into the tables while they have no parts, and to those that are
 /// being read from the first one on that has some.
 #[cycle(reading)]
-fn items(
+fn items<const EXACT: bool>(
     tables: &mut Tables<'_>,
     pending: &mut Pending,
     reader: &mut Cursor<'_>,
@@ -220,17 +220,17 @@ fn items(
     ensures text { reader.new.text ≡ reader.old.text }
 {
     let first = tables.items.len();
-    let token = leaves(tables, reader)?;
+    let token = leaves::<EXACT>(tables, reader)?;
     if let Token::EndArray = token {
         let list = list_from(tables, first)?;
         return Some(list);
     }
     let base = pending.items.len();
     move_parts(&mut pending.items, &mut tables.items, first)?;
-    let item = container(tables, pending, reader, depth, token)?;
+    let item = container::<EXACT>(tables, pending, reader, depth, token)?;
     put(&mut pending.items, item)?;
     'items: while !reader.take_end_array() {
-        let item = value(tables, pending, reader, depth)?;
+        let item = value::<EXACT>(tables, pending, reader, depth)?;
         put(&mut pending.items, item)?;
     }
     let list = close_list(tables, &mut pending.items, base)?;
@@ -240,7 +240,7 @@ fn items(
 /// Reads the members of an object: one that stands alone into the tables, and else to those that are
 /// being read.
 #[cycle(reading)]
-fn members(
+fn members<const EXACT: bool>(
     tables: &mut Tables<'_>,
     pending: &mut Pending,
     reader: &mut Cursor<'_>,
@@ -260,7 +260,7 @@ fn members(
     'members: while let Some(name) = reader.next_name()? {
         rises = still_rises(rises, tables, &pending.members, base, name);
         let span = text_span(tables, name)?;
-        let item = value(tables, pending, reader, depth)?;
+        let item = value::<EXACT>(tables, pending, reader, depth)?;
         let member = Named { name: span, item };
         if ends_alone(reader, &pending.members, base) {
             let object = object_of_one(tables, member)?;

@@ -29,7 +29,7 @@ pub(crate) fn text_span(tables: &mut Tables<'_>, text: Spelled<'_>) -> Option<Sp
 
 /// The span of a text that stands in the document from this offset on.
 #[inline(always)]
-fn in_text(tables: &Tables<'_>, first: usize, text: &[u8]) -> Option<Span>
+pub(crate) fn in_text(tables: &Tables<'_>, first: usize, text: &[u8]) -> Option<Span>
     requires { StandsAt tables.now.text.now first text.now }
     ensures { IfSome result (λ s. text_at (shown tables.now) s ≡ Some text.now) }
 {

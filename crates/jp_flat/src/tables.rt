@@ -1,6 +1,6 @@
 //! The tables of a document.
 
-ghost use Rattle.std.specs.Prelude.{◌≡◌, [], IfOk};
+ghost use Rattle.std.specs.Prelude.{◌≡◌, [], IfOk, false};
 ghost use Rattle.jp_flat.specs.Flat.{IsOwned, shown};
 
 use crate::item::{Item, Named};
@@ -10,25 +10,28 @@ use std::alloc::{AllocError, Global};
 pub(crate) const MAX_DEPTH: usize = 127;
 
 /// A document's text, the texts that are spelled otherwise in it, unescaped, and the parts of its
-/// lists and objects, side by side.
+/// lists and objects, side by side. `exact` says that numbers that are not whole are taken.
 #[derive(Drop)]
 pub(crate) struct Tables<'t> {
     pub(crate) text: &'t str,
     pub(crate) spare: String,
     pub(crate) items: Vec<Item>,
     pub(crate) members: Vec<Named>,
+    pub(crate) exact: bool,
 }
 
 impl<'t> Tables<'t> {
     /// The tables of a document of which nothing is read yet, with no memory.
     pub(crate) fn new(alloc: Global, text: &'t str) -> Tables<'t>
-        ensures { (shown result).source ≡ text.now }
+        ensures source { (shown result).source ≡ text.now }
+        ensures exact { (shown result).exact ≡ false }
     {
         Tables {
             text,
             spare: String::new(alloc),
             items: Vec::new(alloc),
             members: Vec::new(alloc),
+            exact: false,
         }
     }
 
@@ -38,17 +41,20 @@ impl<'t> Tables<'t> {
         spare: String,
         items: Vec<Item>,
         members: Vec<Named>,
+        exact: bool,
     ) -> Tables<'t>
         ensures source { (shown result).source ≡ text.now }
         ensures spare { (shown result).spare ≡ [] }
         ensures items { (shown result).items ≡ [] }
         ensures members { (shown result).members ≡ [] }
+        ensures exact { (shown result).exact ≡ exact }
     {
         let mut tables = Tables {
             text,
             spare,
             items,
             members,
+            exact,
         };
         tables.spare.clear();
         tables.items.clear();
@@ -69,6 +75,7 @@ impl<'t> Tables<'t> {
             spare,
             items: self.items,
             members: self.members,
+            exact: self.exact,
         })
     }
 

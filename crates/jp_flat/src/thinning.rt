@@ -39,14 +39,14 @@ pub(crate) fn thin_value(
     ensures shorter { OnSome result (length reader.new.tokens < length reader.old.tokens) }
     ensures text { reader.new.text ≡ reader.old.text }
 {
-    let token = reader.next()?;
+    let token = reader.next::<false>()?;
     match token {
         Token::BeginArray | Token::BeginObject => {
             let item = thin_container(tables, pending, reader, depth, token, wanted)?;
             Some(item)
         }
         _ => {
-            let item = leaf(tables, token)?;
+            let item = leaf::<false>(tables, token)?;
             Some(item)
         }
     }
@@ -107,7 +107,7 @@ fn thin_items(
     ensures text { reader.new.text ≡ reader.old.text }
 {
     let first = tables.items.len();
-    let token = leaves(tables, reader)?;
+    let token = leaves::<false>(tables, reader)?;
     if let Token::EndArray = token {
         let list = list_from(tables, first)?;
         return Some(list);
@@ -146,7 +146,7 @@ fn thin_members(
     let base = pending.members.len();
     let mut rises = true;
     'members: while let Some(name) = reader.next_name()? {
-        let token = reader.next()?;
+        let token = reader.next::<false>()?;
         let (item, spare) = member_behind(tables, pending, reader, depth, name, token, wanted)?;
         rises = put_member(tables, &mut pending.members, base, rises, name, item, spare)?;
     }
@@ -187,14 +187,14 @@ fn member_behind(
     match token {
         Token::BeginArray | Token::BeginObject => {
             if may_be(wanted, name) {
-                let item = lone_container(tables, pending, reader, depth, token)?;
+                let item = lone_container::<false>(tables, pending, reader, depth, token)?;
                 return Some((item, false));
             }
             let item = thin_container(tables, pending, reader, depth, token, wanted)?;
             Some((item, false))
         }
         _ => {
-            let item = leaf(tables, token)?;
+            let item = leaf::<false>(tables, token)?;
             Some((item, !may_be(wanted, name)))
         }
     }

@@ -9,7 +9,8 @@ pub(crate) enum Spelled<'t> {
 }
 
 /// A token. The colon behind a key goes with it, and so does the comma behind a value. A number has
-/// its characters, and the number that its digits write, if they are at most 18.
+/// its characters, and the number that its digits write, if they are at most 18. `Numeral` is one by
+/// its characters alone, from an offset on.
 #[derive(Clone, Copy, Drop)]
 pub(crate) enum Token<'t> {
     BeginArray,
@@ -19,6 +20,7 @@ pub(crate) enum Token<'t> {
     Key(Spelled<'t>),
     Text(Spelled<'t>),
     Number(&'t [u8], u64),
+    Numeral(usize, &'t [u8]),
     Bool(bool),
     Null,
 }

@@ -1,6 +1,6 @@
 //! One value of a document, without the others.
 
-ghost use Rattle.std.specs.Prelude.{◌≡◌, IfSome, map};
+ghost use Rattle.std.specs.Prelude.{◌≡◌, IfSome, OnSome, map};
 ghost use Rattle.jp_document.specs.Location.{owned_step};
 ghost use Rattle.jp_flat.specs.Flat.{shown};
 ghost use Rattle.jp_flat.specs.Private.Found.{FindsInText};
@@ -18,8 +18,9 @@ pub(crate) fn value_in(
     pending: &mut Pending,
     location: &[OwnedStep],
 ) -> Option<Option<Item>>
-    ensures { IfSome result (FindsInText tables.old.text.now (shown tables.new) (map owned_step
+    ensures finds { IfSome result (FindsInText tables.old.text.now (shown tables.new) (map owned_step
         location.now)) }
+    ensures exact { OnSome result (tables.new.exact ≡ tables.old.exact) }
 {
     let mut reader = Cursor::new(tables.text.as_bytes());
     let found = find(tables, pending, &mut reader, MAX_DEPTH, Some(location))?;

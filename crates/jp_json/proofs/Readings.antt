@@ -85,9 +85,13 @@ stopped-by k j s Unfinished c rest more is h = absurd h
 -- ---- where reading stops
 
 pub unexpected-at : (text : Text) (r : Reading) → IsReading text r → r.stop ≡ Unexpected
-    → IsUnexpectedAt 127 text r.offset
-unexpected-at text r h is = stuck-at (rw is at h.stops)
+    → (u : IsUnexpectedAt 127 text r.offset)
+    × (chars r.rest.now ≡ u.there.character ∷ u.there.after)
+unexpected-at text r h is = (stuck-at s, s.2)
   where
+    s : IsStopped Unexpected (chars r.rest.now) h.open_levels r.state
+    s = rw is at h.stops
+
     stuck-at : IsStopped Unexpected (chars r.rest.now) h.open_levels r.state
         → IsUnexpectedAt 127 text r.offset
     stuck-at s = record {

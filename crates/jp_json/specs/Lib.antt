@@ -5,7 +5,6 @@ pub mod Laws
 pub mod Misreading
 pub mod Names
 pub mod Place
-pub mod Sentences
 pub mod Told
 pub mod ViablePrefix
 pub mod Private

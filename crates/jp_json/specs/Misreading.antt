@@ -1,5 +1,5 @@
 -- What is told of bytes that are no document.
-use Rattle.std.specs.Prelude.{◌≡◌, ◌⊎◌, ◌≤◌, ◌||◌, ◌==◌, ℕ, Bool, true, false, List, [], ◌∷◌, length}
+use Rattle.std.specs.Prelude.{◌≡◌, ◌⊎◌, ◌≤◌, ◌&&◌, ◌||◌, ◌==◌, ℕ, Bool, true, false, List, [], ◌∷◌, length}
 use Rattle.std.specs.Prelude.{codes, slice_range, take, string_bytes, IsUtf8, Option, Some, None, String}
 use Rattle.jp_reading.specs.Characters.{double_quote, minus}
 use Rattle.jp_reading.specs.Numbers.{is_digit}
@@ -12,8 +12,11 @@ use Rattle.jp_json.specs.declared.reason.JsonReason.{JsonReason}
 use Rattle.jp_json.specs.declared.reason.JsonReason.TheVariants.{NotUtf8, TooManyLevels, LoneSurrogate}
 use Rattle.jp_json.specs.declared.reason.JsonReason.TheVariants.{BeyondFloat, HasFraction, NegativeZero}
 use Rattle.jp_json.specs.declared.reason.JsonReason.TheVariants.{OutOfRange, ListTooLong, Unreadable}
+use Rattle.jp_json.specs.declared.reason.JsonReason.TheVariants.{Utf16, Gzip, ByteOrderMark, RecordSeparator}
+use Rattle.jp_json.specs.declared.reason.JsonReason.TheVariants.{NullCharacter, NoBreakSpace}
 use Rattle.jp_json.specs.Grammar.{json_text}
 use Rattle.jp_json.specs.Place.{column, front_of, line_number}
+use Rattle.jp_reading.specs.Sentences.{is_sentence}
 use Rattle.jp_json.specs.ViablePrefix.{IsTooDeepAt, IsUnexpectedAt, IsUnfinishedAt}
 use Rattle.jp_json.specs.ViablePrefix.{IsViablePrefix}
 
@@ -21,11 +24,25 @@ use Rattle.jp_json.specs.ViablePrefix.{IsViablePrefix}
 abbrev pub utf8_text : List ℕ → Text
 utf8_text bytes = chars (take (utf8_valid_len bytes) bytes)
 
--- What kind of reason: the bytes are no UTF-8; they are no JSON text; they nest too deep; a string or
--- a number in them stands for no value; a number is not whole; a list is too long; or another.
+-- whether bytes begin as gzip's do (RFC 1952 section 2.3.1)
+abbrev pub is_gzip : List ℕ → Bool
+is_gzip (b ∷ c ∷ rest) = b == 31 && c == 139
+is_gzip _ = false
+
+-- whether they begin with U+FEFF in UTF-16, in either order of its bytes
+abbrev pub is_utf16 : List ℕ → Bool
+is_utf16 (b ∷ c ∷ rest) = (b == 255 && c == 254) || (b == 254 && c == 255)
+is_utf16 _ = false
+
+-- What kind of reason: the bytes are no UTF-8, or begin as UTF-16 does besides; they are no JSON text, or
+-- that character stands where they are none, or they begin as gzip's do besides; they nest too deep; a string
+-- or a number in them stands for no value; a number is not whole; a list is too long; or another.
 pub data Cause : Type 0 where
   encoding : Cause
+  utf16 : Cause
   syntax : Cause
+  named : ℕ → Cause
+  gzip : Cause
   levels : Cause
   scalar : Cause
   fraction : Cause
@@ -34,6 +51,12 @@ pub data Cause : Type 0 where
 
 abbrev pub cause_of : JsonReason → Cause
 cause_of NotUtf8 = encoding
+cause_of Utf16 = utf16
+cause_of Gzip = gzip
+cause_of ByteOrderMark = named 65279
+cause_of RecordSeparator = named 30
+cause_of NullCharacter = named 0
+cause_of NoBreakSpace = named 160
 cause_of TooManyLevels = levels
 cause_of LoneSurrogate = scalar
 cause_of BeyondFloat = scalar
@@ -90,7 +113,13 @@ IsFractionPath bytes (Some path) = HasDefect bytes (not_whole (string_bytes path
 -- the bytes are no document, by a reason of that kind, at that byte
 abbrev pub IsCausedBy : {Z : Type 0} → Cause → List ℕ → ℕ → Option (String Z) → Type 0
 IsCausedBy encoding bytes place path = HasDefect bytes not_json × IsNoUtf8At bytes place
+IsCausedBy utf16 bytes place path =
+    HasDefect bytes not_json × IsNoUtf8At bytes place × (is_utf16 bytes ≡ true)
 IsCausedBy syntax bytes place path = HasDefect bytes not_json × IsWrongAt bytes place
+IsCausedBy (named c) bytes place path = HasDefect bytes not_json
+    × ((u : IsUnexpectedAt 127 (utf8_text bytes) place) × (u.there.character ≡ c))
+IsCausedBy gzip bytes place path =
+    HasDefect bytes not_json × IsWrongAt bytes place × (is_gzip bytes ≡ true)
 IsCausedBy levels bytes place path =
     HasDefect bytes not_json × IsTooDeepAt 127 (utf8_text bytes) place
 IsCausedBy scalar bytes place path =
@@ -109,9 +138,10 @@ pub record IsPlaceIn (bytes : List ℕ) (place : ℕ) : Type 0 where
   pub within : place ≤ length bytes
   pub before : IsUtf8 (take place bytes)
 
--- the bytes are misread so
+-- the bytes are misread so, and a sentence says it
 pub record IsMisreading (bytes : List ℕ) (m : Misreading) : Type 0 where
   pub place : IsPlaceIn bytes m.offset
   pub cause : IsCausedBy (cause_of m.reason) bytes m.offset m.path
   pub line : m.line ≡ line_number (front_of m.offset (utf8_text bytes))
   pub column : m.column ≡ column (front_of m.offset (utf8_text bytes))
+  pub sentence : is_sentence m.sentence.now ≡ true

@@ -8,11 +8,17 @@ use Rattle.jp_json.specs.declared.reason.JsonReason.TheVariants.{TrailingComma, 
 use Rattle.jp_json.specs.declared.reason.JsonReason.TheVariants.{WrongWord, WrongNumber, LeadingZero, ControlCharacter, WrongEscape}
 use Rattle.jp_json.specs.declared.reason.JsonReason.TheVariants.{LoneSurrogate, BeyondFloat, HasFraction, NegativeZero, OutOfRange}
 use Rattle.jp_json.specs.declared.reason.JsonReason.TheVariants.{ListTooLong, Unreadable, Unexpected}
+use Rattle.jp_json.specs.declared.reason.JsonReason.TheVariants.{Utf16, Gzip, RecordSeparator, NullCharacter, NoBreakSpace}
 
 -- the name of a reason, in ASCII
 abbrev pub name_of : JsonReason → List ℕ
 name_of NotUtf8 = codes "NotUtf8"
+name_of Utf16 = codes "Utf16"
+name_of Gzip = codes "Gzip"
 name_of ByteOrderMark = codes "ByteOrderMark"
+name_of RecordSeparator = codes "RecordSeparator"
+name_of NullCharacter = codes "NullCharacter"
+name_of NoBreakSpace = codes "NoBreakSpace"
 name_of Empty = codes "Empty"
 name_of EndInText = codes "EndInText"
 name_of EndInNumber = codes "EndInNumber"

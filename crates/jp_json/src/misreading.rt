@@ -1,17 +1,18 @@
 //! What is told of bytes that are no document.
 
-ghost use Rattle.std.specs.Prelude.{◌≡◌, IfOk, IfNone, IfSome, None, string_bytes};
+ghost use Rattle.std.specs.Prelude.{◌≡◌, true, IfOk, IfNone, IfSome, None, string_bytes};
 ghost use Rattle.std.specs.Str.{chars};
 ghost use Rattle.jp_document.specs.Document.{IsDocument, IsDocumentFault, HasDefect, not_json, not_whole};
 ghost use Rattle.jp_document.specs.Value.{Value};
 ghost use Rattle.jp_json.specs.Misreading.{IsMisreading};
 ghost use Rattle.jp_json.specs.Place.{front_of, line_number, column};
+ghost use Rattle.jp_reading.specs.Sentences.{is_sentence};
 
 use crate::fractions::fraction_at;
 use crate::place::line_and_column;
 use crate::reading::{Stop, read};
 use crate::reason::JsonReason;
-use crate::reasons::stop_reason;
+use crate::reasons::{encoding_reason, stop_reason, wrong_reason};
 use crate::scalars::refused_scalar;
 use crate::utf8::utf8_front;
 use jp_document::{DocumentFault, parsed_value};
@@ -28,6 +29,8 @@ pub struct Misreading {
     /// Its column in that line, in characters from 1.
     pub column: usize,
     pub reason: JsonReason,
+    /// The sentence for the reason: one line of printable characters, in ASCII.
+    pub sentence: &'static str,
     /// The normalized path of a number that is not whole (RFC 9535 section 2.7); None for other
     /// reasons.
     pub path: Option<String>,
@@ -43,7 +46,7 @@ impl fmt::Display for Misreading {
 
     fn fmt<W: fmt::Write>(&self, f: &mut fmt::Formatter<W>) -> fmt::Result {
         let (line, column) = (self.line, self.column);
-        let sentence = self.reason.sentence();
+        let sentence = self.sentence;
         match &self.path {
             Some(path) => write!(f, "line {line}, column {column}, at {path}: {sentence}"),
             None => write!(f, "line {line}, column {column}: {sentence}"),
@@ -58,6 +61,7 @@ fn told(text: &str, offset: usize, reason: JsonReason, path: Option<String>) -> 
     ensures path { result.path ≡ path }
     ensures line { result.line ≡ line_number (front_of offset (chars text.now)) }
     ensures column { result.column ≡ column (front_of offset (chars text.now)) }
+    ensures sentence { is_sentence result.sentence.now ≡ true }
 {
     let (line, column) = line_and_column(text, offset);
     Misreading {
@@ -65,6 +69,7 @@ fn told(text: &str, offset: usize, reason: JsonReason, path: Option<String>) -> 
         line,
         column,
         reason,
+        sentence: reason.sentence(),
         path,
     }
 }
@@ -77,15 +82,18 @@ fn not_json(alloc: Global, bytes: &[u8]) -> Result<Misreading, AllocError>
     let (text, is_utf8) = utf8_front(bytes);
     let reading = read(alloc, text)?;
     match reading.stop {
-        Stop::Unexpected => Ok(told(text, reading.offset, stop_reason(reading), None)),
+        Stop::Unexpected => {
+            let reason = wrong_reason(bytes, stop_reason(reading));
+            Ok(told(text, reading.offset, reason, None))
+        }
         Stop::TooDeep => Ok(told(text, reading.offset, JsonReason::TooManyLevels, None)),
         Stop::Unfinished if is_utf8 => Ok(told(text, reading.offset, stop_reason(reading), None)),
         Stop::Whole if is_utf8 => {
             let (offset, reason) = refused_scalar(alloc, bytes)?;
             Ok(told(text, offset, reason, None))
         }
-        Stop::Unfinished => Ok(told(text, text.len(), JsonReason::NotUtf8, None)),
-        Stop::Whole => Ok(told(text, text.len(), JsonReason::NotUtf8, None)),
+        Stop::Unfinished => Ok(told(text, text.len(), encoding_reason(bytes), None)),
+        Stop::Whole => Ok(told(text, text.len(), encoding_reason(bytes), None)),
     }
 }
 

@@ -1,16 +1,26 @@
 //! Why bytes are no document, reason by reason.
 
-ghost use Rattle.std.specs.Prelude.{◌≡◌};
+ghost use Rattle.std.specs.Prelude.{◌≡◌, true};
 ghost use Rattle.jp_json.specs.Names.{name_of};
-ghost use Rattle.jp_json.specs.Sentences.{sentence_of};
+ghost use Rattle.jp_reading.specs.Sentences.{is_sentence};
 
 /// Why bytes are no document (RFC 8259).
 #[derive(Debug, Clone, Copy, PartialEq, Eq)]
 pub enum JsonReason {
     /// At this byte no UTF-8 goes on (section 8.1).
     NotUtf8,
+    /// The bytes begin with a byte order mark of UTF-16, U+FEFF in either order of its bytes.
+    Utf16,
+    /// The bytes begin with the mark of gzip.
+    Gzip,
     /// A byte order mark stands before the value (section 8.1).
     ByteOrderMark,
+    /// A record separator stands before the value, as in a JSON text sequence.
+    RecordSeparator,
+    /// U+0000 stands outside of strings, as in what is UTF-16 without a byte order mark.
+    NullCharacter,
+    /// U+00A0 stands outside of strings.
+    NoBreakSpace,
     /// There is nothing but blanks.
     Empty,
     /// The end comes within a string.
@@ -76,14 +86,27 @@ pub enum JsonReason {
 }
 
 impl JsonReason {
-    /// The sentence for the reason, in ASCII.
+    /// The sentence for the reason, in ASCII and on one line.
     pub fn sentence(self) -> &'static str
-        ensures { result.now ≡ sentence_of self }
+        ensures { is_sentence result.now ≡ true }
     {
         match self {
             JsonReason::NotUtf8 => "The bytes here are no UTF-8.",
+            JsonReason::Utf16 => {
+                "This is UTF-16, and JSON is UTF-8: iconv -f UTF-16 -t UTF-8 writes it so."
+            }
+            JsonReason::Gzip => "This is compressed by gzip: gzip -dc writes what it holds.",
             JsonReason::ByteOrderMark => {
                 "A byte order mark stands before the value, and JSON has none."
+            }
+            JsonReason::RecordSeparator => {
+                "A record separator (RFC 7464) stands before the value, and JSON has none."
+            }
+            JsonReason::NullCharacter => {
+                "A null character stands here, as in UTF-16: JSON is UTF-8."
+            }
+            JsonReason::NoBreakSpace => {
+                "A no-break space (U+00A0) stands here: JSON has plain spaces between its parts."
             }
             JsonReason::Empty => "There is no value here.",
             JsonReason::EndInText => "The text ends within a string: a double quote is missing.",
@@ -137,7 +160,12 @@ impl JsonReason {
     {
         match self {
             JsonReason::NotUtf8 => "NotUtf8",
+            JsonReason::Utf16 => "Utf16",
+            JsonReason::Gzip => "Gzip",
             JsonReason::ByteOrderMark => "ByteOrderMark",
+            JsonReason::RecordSeparator => "RecordSeparator",
+            JsonReason::NullCharacter => "NullCharacter",
+            JsonReason::NoBreakSpace => "NoBreakSpace",
             JsonReason::Empty => "Empty",
             JsonReason::EndInText => "EndInText",
             JsonReason::EndInNumber => "EndInNumber",

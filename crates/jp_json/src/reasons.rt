@@ -2,10 +2,11 @@
 
 ghost use Rattle.std.specs.Prelude.{◌≡◌};
 ghost use Rattle.jp_json.specs.Private.Reasons.{is_word, is_comment, bracket_reason, brace_reason};
-ghost use Rattle.jp_json.specs.Private.Reasons.{mark_reason, value_reason, name_reason, joint_reason};
-ghost use Rattle.jp_json.specs.Private.Reasons.{after_reason, past_number_reason, number_reason};
-ghost use Rattle.jp_json.specs.Private.Reasons.{unexpected_reason, open_reason, end_reason};
-ghost use Rattle.jp_json.specs.Private.Reasons.{stop_reason};
+ghost use Rattle.jp_json.specs.Private.Reasons.{mark_reason, separator_reason, value_reason, name_reason, joint_reason};
+ghost use Rattle.jp_json.specs.Private.Reasons.{after_reason, colon_reason, past_number_reason, number_reason};
+ghost use Rattle.jp_json.specs.Private.Reasons.{outside_reason, unexpected_reason, open_reason, end_reason};
+ghost use Rattle.jp_json.specs.Private.Reasons.{stop_reason, wrong_reason, encoding_reason};
+ghost use Rattle.jp_json.specs.Misreading.{is_gzip, is_utf16};
 ghost use Rattle.std.specs.Str.{chars};
 
 use crate::machine::{ends_number, is_digit};
@@ -54,12 +55,22 @@ fn mark_reason(top: Option<Level>) -> JsonReason
     }
 }
 
+fn separator_reason(top: Option<Level>) -> JsonReason
+    ensures { result ≡ separator_reason top }
+{
+    match top {
+        None => JsonReason::RecordSeparator,
+        Some(_) => JsonReason::Unexpected,
+    }
+}
+
 /// For a character that stands where a value has to.
 fn value_reason(top: Option<Level>, c: char) -> JsonReason
     ensures { result ≡ value_reason top c }
 {
     match c {
         '\u{feff}' => mark_reason(top),
+        '\u{1e}' => separator_reason(top),
         '\'' => JsonReason::SingleQuote,
         _ if is_comment(c) => JsonReason::Comment,
         ']' => bracket_reason(top),
@@ -132,20 +143,41 @@ fn number_reason(part: Part, top: Option<Level>, c: char) -> JsonReason
     }
 }
 
+/// For a character outside of strings, where it shows more than the other reason.
+fn outside_reason(c: char, other: JsonReason) -> JsonReason
+    ensures { result ≡ outside_reason c other }
+{
+    match c {
+        '\0' => JsonReason::NullCharacter,
+        '\u{a0}' => JsonReason::NoBreakSpace,
+        _ => other,
+    }
+}
+
+/// For a character after a member's name.
+fn colon_reason(c: char) -> JsonReason
+    ensures { result ≡ colon_reason c }
+{
+    if is_comment(c) {
+        JsonReason::Comment
+    } else {
+        JsonReason::MissingColon
+    }
+}
+
 /// For a character with which no JSON text goes on.
 fn unexpected_reason(top: Option<Level>, state: State, c: char) -> JsonReason
     ensures { result ≡ unexpected_reason top state c }
 {
     match state {
-        State::Value | State::Item => value_reason(top, c),
-        State::Member | State::Name => name_reason(c),
-        State::Colon if is_comment(c) => JsonReason::Comment,
-        State::Colon => JsonReason::MissingColon,
-        State::After => after_reason(top, c),
+        State::Value | State::Item => outside_reason(c, value_reason(top, c)),
+        State::Member | State::Name => outside_reason(c, name_reason(c)),
+        State::Colon => outside_reason(c, colon_reason(c)),
+        State::After => outside_reason(c, after_reason(top, c)),
         State::Text(_) => JsonReason::ControlCharacter,
         State::Escape(_) | State::Hex(_, _) => JsonReason::WrongEscape,
-        State::Number(part) => number_reason(part, top, c),
-        State::Letters(_) => JsonReason::WrongWord,
+        State::Number(part) => outside_reason(c, number_reason(part, top, c)),
+        State::Letters(_) => outside_reason(c, JsonReason::WrongWord),
     }
 }
 
@@ -184,5 +216,41 @@ pub(crate) fn stop_reason(reading: Reading) -> JsonReason
             Some((next, _)) => unexpected_reason(reading.top, reading.state, next),
             None => JsonReason::Unreadable,
         },
+    }
+}
+
+/// Whether bytes begin with the mark of gzip (RFC 1952 section 2.3.1).
+fn is_gzip(bytes: &[u8]) -> bool
+    ensures { result ≡ is_gzip bytes.now }
+{
+    matches!(bytes, [0x1f, 0x8b, ..])
+}
+
+/// Whether bytes begin with U+FEFF in UTF-16, in either order of its bytes.
+fn is_utf16(bytes: &[u8]) -> bool
+    ensures { result ≡ is_utf16 bytes.now }
+{
+    matches!(bytes, [0xff, 0xfe, ..] | [0xfe, 0xff, ..])
+}
+
+/// The reason for bytes with which no JSON text goes on, where they show more than the other reason.
+pub(crate) fn wrong_reason(bytes: &[u8], other: JsonReason) -> JsonReason
+    ensures { result ≡ wrong_reason bytes.now other }
+{
+    if is_gzip(bytes) {
+        JsonReason::Gzip
+    } else {
+        other
+    }
+}
+
+/// The reason for bytes that are no UTF-8.
+pub(crate) fn encoding_reason(bytes: &[u8]) -> JsonReason
+    ensures { result ≡ encoding_reason bytes.now }
+{
+    if is_utf16(bytes) {
+        JsonReason::Utf16
+    } else {
+        JsonReason::NotUtf8
     }
 }

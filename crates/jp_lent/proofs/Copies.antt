@@ -4,7 +4,8 @@ use Rattle.std.specs.List.{slice_get}
 use Rattle.std.specs.Option.{option_map}
 use Rattle.std.proofs.lemmas.Option.{slice_get-map}
 use Rattle.jp_document.specs.Location.{entries, items_from, members_by_name}
-use Rattle.jp_document.specs.Value.{Value, null, boolean, whole, text, list, object, Items, no_items}
+use Rattle.jp_document.specs.Value.{Value, null, boolean, whole, decimal, text, list, object, Items}
+use Rattle.jp_document.specs.Value.{no_items}
 use Rattle.jp_document.specs.Value.{item, Members, no_members, member, items_of, members_of}
 use Rattle.jp_lent.specs.Lending.{bare}
 use Rattle.jp_lent.specs.Private.Copying.{as_member}
@@ -23,6 +24,7 @@ list-copied (list vs) is = ap list (all_items 0 vs)
 list-copied null is = absurd (cc)
 list-copied (boolean b) is = absurd (cc)
 list-copied (whole z) is = absurd (cc)
+list-copied (decimal c e) is = absurd (cc)
 list-copied (text s) is = absurd (cc)
 list-copied (object ms) is = absurd (cc)
 
@@ -32,6 +34,7 @@ object-copied (object ms) is = ap object (all_members ms)
 object-copied null is = absurd (cc)
 object-copied (boolean b) is = absurd (cc)
 object-copied (whole z) is = absurd (cc)
+object-copied (decimal c e) is = absurd (cc)
 object-copied (text s) is = absurd (cc)
 object-copied (list vs) is = absurd (cc)
 

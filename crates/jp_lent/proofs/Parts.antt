@@ -5,10 +5,11 @@ use Rattle.std.proofs.Math.Dec.{eqb-suc-zero}
 use Rattle.std.proofs.lemmas.Option.{same_Some}
 use Rattle.std.specs.List.{flat_map, join_with_byte, slice_get}
 use Rattle.jp_reading.specs.Characters as char
-use Rattle.jp_document.specs.Appending.{IsPartAppended}
+use Rattle.jp_decimal.specs.Appended.{IsBegun}
 use Rattle.jp_document.specs.Location.{Step, entries, items_from, members_by_name}
 use Rattle.jp_document.specs.Text.{text_of, item_texts, member_texts, string_text}
-use Rattle.jp_document.specs.Value.{Value, null, boolean, whole, text, list, object, Items, no_items, item, Members, no_members, member}
+use Rattle.jp_document.specs.Value.{Value, null, boolean, whole, decimal, text, list, object, Items}
+use Rattle.jp_document.specs.Value.{no_items, item, Members, no_members, member}
 use Rattle.jp_document.proofs.Writing.Appended.{on}
 use Rattle.jp_lent.specs.Lending.{bare}
 use Rattle.jp_lent.specs.Private.Printing.{part_text, part_texts}
@@ -35,6 +36,7 @@ list-printed (list vs) is =
 list-printed null is = absurd (cc)
 list-printed (boolean b) is = absurd (cc)
 list-printed (whole z) is = absurd (cc)
+list-printed (decimal c e) is = absurd (cc)
 list-printed (text s) is = absurd (cc)
 list-printed (object ms) is = absurd (cc)
 
@@ -47,6 +49,7 @@ object-printed (object ms) is =
 object-printed null is = absurd (cc)
 object-printed (boolean b) is = absurd (cc)
 object-printed (whole z) is = absurd (cc)
+object-printed (decimal c e) is = absurd (cc)
 object-printed (text s) is = absurd (cc)
 object-printed (list vs) is = absurd (cc)
 
@@ -106,9 +109,9 @@ joined_more now after part all rest more i next wrote before =
 
 -- and with a part of the next part written
 pub part_more : (before all now part after : List ℕ) (rest more : List (List ℕ)) (i : ℕ)
-    → rest ≡ part ∷ more → IsPartAppended before all now → now ++ parts_from i rest ≡ before
-    ++ all → IsPartAppended now (cond (eqb i 0) [] (char.comma ∷ []) ++ part) after
-    → IsPartAppended before all after
+    → rest ≡ part ∷ more → IsBegun before all now → now ++ parts_from i rest ≡ before
+    ++ all → IsBegun now (cond (eqb i 0) [] (char.comma ∷ []) ++ part) after
+    → IsBegun before all after
 part_more before all now part after rest more i next kept begun wrote =
     let comma = cond (eqb i 0) [] (char.comma ∷ []) in
     on before all now (comma ++ part) (commas_before more) after kept

@@ -4,7 +4,7 @@ use Rattle.std.proofs.Common.{ap, subst, sym}
 use Rattle.std.specs.List.{slice_get}
 use Rattle.std.proofs.lemmas.Option.{same_Some}
 use Rattle.jp_document.specs.Location.{Step, named, nth, entries, items_from, members_by_name}
-use Rattle.jp_document.specs.Value.{Value, null, boolean, whole, text, list, object, Items}
+use Rattle.jp_document.specs.Value.{Value, null, boolean, whole, decimal, text, list, object, Items}
 use Rattle.jp_document.specs.Value.{no_items}
 use Rattle.jp_document.specs.Value.{item, Members, no_members, member}
 
@@ -36,6 +36,7 @@ pub inside_less : (v : Value) → weight_inside v < weight v
 inside_less null = omega arith
 inside_less (boolean b) = omega arith
 inside_less (whole z) = omega arith
+inside_less (decimal c e) = omega arith
 inside_less (text s) = omega arith
 inside_less (list vs) = omega arith
 inside_less (object ms) = omega arith
@@ -45,6 +46,7 @@ pub inside-far-less : (v : Value) → suc (weight_inside v) < weight v
 inside-far-less null = omega arith
 inside-far-less (boolean b) = omega arith
 inside-far-less (whole z) = omega arith
+inside-far-less (decimal c e) = omega arith
 inside-far-less (text s) = omega arith
 inside-far-less (list vs) = omega arith
 inside-far-less (object ms) = omega arith
@@ -80,6 +82,7 @@ part_less : (v : Value) (i : ℕ) (e : Step × Value) → slice_get (entries v) 
 part_less null i e at = absurd (cc)
 part_less (boolean b) i e at = absurd (cc)
 part_less (whole z) i e at = absurd (cc)
+part_less (decimal x y) i e at = absurd (cc)
 part_less (text s) i e at = absurd (cc)
 part_less (list vs) i e at = item_less 0 vs i e at
 part_less (object ms) i e at = member_less ms i e at

@@ -1,6 +1,7 @@
 -- What values that are lent stand for.
 use Rattle.jp_document.specs.Location.{Step, step_of}
-use Rattle.jp_document.specs.Value.{Value, null, boolean, whole, text, list, object, no_items}
+use Rattle.jp_document.specs.Value.{Value, null, boolean, whole, decimal, text, list, object}
+use Rattle.jp_document.specs.Value.{no_items}
 use Rattle.jp_document.specs.Value.{no_members}
 use Rattle.jp_document.specs.declared.location.Step as code
 use Rattle.jp_lent.specs.declared.seen.Seen.{Seen}
@@ -25,6 +26,7 @@ abbrev pub seen_value : Seen → Value
 seen_value seen.Null = null
 seen_value (seen.Bool b) = boolean b
 seen_value (seen.Whole z) = whole z
+seen_value (seen.Decimal e c) = decimal c e
 seen_value (seen.Text s) = text s.now
 seen_value seen.List = list no_items
 seen_value seen.Members = object no_members

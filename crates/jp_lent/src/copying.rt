@@ -20,6 +20,13 @@ pub fn json_of<'d, V: Lent + 'd>(alloc: Global, value: V) -> Result<Json, AllocE
         Seen::Null => Ok(Json::Null),
         Seen::Bool(truth) => Ok(Json::Bool(truth)),
         Seen::Whole(number) => Ok(Json::Whole(number)),
+        Seen::Decimal {
+            exponent,
+            coefficient,
+        } => Ok(Json::Decimal {
+            exponent,
+            coefficient,
+        }),
         Seen::Text(text) => Ok(Json::Text(String::from_str(alloc, text)?)),
         Seen::List => Ok(Json::List(items(alloc, value)?)),
         Seen::Members => Ok(Json::Members(members(alloc, value)?)),

@@ -34,7 +34,8 @@ impl<'v> Lent for &'v Json {
                 let member = members.get(position)?;
                 Some((Step::Name(member.name.as_str()), &member.value))
             }
-            Json::Null | Json::Bool(_) | Json::Whole(_) | Json::Text(_) => None,
+            Json::Null | Json::Bool(_) | Json::Whole(_) | Json::Decimal { .. } | Json::Text(_) =>
+                None,
         }
     }
 
@@ -54,6 +55,13 @@ pub(crate) fn seen(json: &Json) -> Seen<'_>
         Json::Null => Seen::Null,
         Json::Bool(truth) => Seen::Bool(*truth),
         Json::Whole(number) => Seen::Whole(*number),
+        Json::Decimal {
+            exponent,
+            coefficient,
+        } => Seen::Decimal {
+            exponent: *exponent,
+            coefficient: *coefficient,
+        },
         Json::Text(text) => Seen::Text(text.as_str()),
         Json::List(_) => Seen::List,
         Json::Members(_) => Seen::Members,
@@ -68,6 +76,6 @@ pub(crate) fn count(json: &Json) -> usize
     match json {
         Json::List(items) => items.len(),
         Json::Members(members) => members.len(),
-        Json::Null | Json::Bool(_) | Json::Whole(_) | Json::Text(_) => 0,
+        Json::Null | Json::Bool(_) | Json::Whole(_) | Json::Decimal { .. } | Json::Text(_) => 0,
     }
 }

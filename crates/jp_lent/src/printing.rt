@@ -3,7 +3,7 @@
 ghost use Rattle.std.specs.Prelude.{◌≡◌, ◌==◌, ◌<◌, ◌++◌, ◌∷◌, [], if◌then◌else◌, IfOk, OnOk};
 ghost use Rattle.std.specs.Prelude.{string_bytes};
 ghost use Rattle.std.specs.List.{join_with_byte};
-ghost use Rattle.jp_document.specs.Appending.{IsPartAppended};
+ghost use Rattle.jp_decimal.specs.Appended.{IsBegun};
 ghost use Rattle.jp_document.specs.Location.{entries, step_of};
 ghost use Rattle.jp_document.specs.Text.{text_of};
 ghost use Rattle.jp_lent.specs.Lending.{step_with};
@@ -11,7 +11,7 @@ ghost use Rattle.jp_lent.specs.Private.Printing.{enclosed, name_text, part_text,
 
 use crate::lent::Lent;
 use crate::seen::Seen;
-use jp_document::{Step, push_integer, push_text};
+use jp_document::{Step, push_decimal, push_integer, push_text};
 use std::alloc::{AllocError, Global};
 
 /// The compact text of a value. The only error is that memory ran out.
@@ -30,7 +30,7 @@ pub fn value_text<'d, V: Lent + 'd>(alloc: Global, value: V) -> Result<String, A
 pub fn push_value<'d, V: Lent + 'd>(out: &mut String, value: V) -> Result<(), AllocError>
     ensures ok { OnOk result
         (string_bytes out.new ≡ string_bytes out.old ++ text_of (V.meaning value)) }
-    ensures kept { IsPartAppended (string_bytes out.old) (text_of (V.meaning value))
+    ensures kept { IsBegun (string_bytes out.old) (text_of (V.meaning value))
         (string_bytes out.new) }
 {
     match value.seen() {
@@ -38,6 +38,10 @@ pub fn push_value<'d, V: Lent + 'd>(out: &mut String, value: V) -> Result<(), Al
         Seen::Bool(true) => out.push_str("true"),
         Seen::Bool(false) => out.push_str("false"),
         Seen::Whole(number) => push_integer(out, number),
+        Seen::Decimal {
+            exponent,
+            coefficient,
+        } => push_decimal(out, coefficient, exponent),
         Seen::Text(text) => push_text(out, text),
         Seen::List => push_copy(out, b'[', value, b']'),
         Seen::Members => push_copy(out, b'{', value, b'}'),
@@ -57,7 +61,7 @@ fn push_copy<'d, V: Lent + 'd>(
     requires closing { closing < 128 }
     ensures ok { OnOk result (string_bytes out.new
         ≡ string_bytes out.old ++ enclosed opening closing (V.meaning value)) }
-    ensures kept { IsPartAppended (string_bytes out.old) (enclosed opening closing (V.meaning value))
+    ensures kept { IsBegun (string_bytes out.old) (enclosed opening closing (V.meaning value))
         (string_bytes out.new) }
 {
     let copy = value;
@@ -78,7 +82,7 @@ fn push_enclosed<'d, V: Lent + 'd>(
     requires closing { closing < 128 }
     ensures ok { OnOk result (string_bytes out.new
         ≡ string_bytes out.old ++ enclosed opening closing (V.meaning value)) }
-    ensures kept { IsPartAppended (string_bytes out.old) (enclosed opening closing (V.meaning value))
+    ensures kept { IsBegun (string_bytes out.old) (enclosed opening closing (V.meaning value))
         (string_bytes out.new) }
 {
     push_mark(out, opening)?;
@@ -90,7 +94,7 @@ fn push_enclosed<'d, V: Lent + 'd>(
 fn push_mark(out: &mut String, mark: u8) -> Result<(), AllocError>
     requires { mark < 128 }
     ensures ok { OnOk result (string_bytes out.new ≡ string_bytes out.old ++ mark ∷ []) }
-    ensures kept { IsPartAppended (string_bytes out.old) (mark ∷ []) (string_bytes out.new) }
+    ensures kept { IsBegun (string_bytes out.old) (mark ∷ []) (string_bytes out.new) }
 {
     out.push(char::from(mark))
 }
@@ -101,7 +105,7 @@ fn push_mark(out: &mut String, mark: u8) -> Result<(), AllocError>
 fn push_parts<'d, V: Lent + 'd>(out: &mut String, value: V) -> Result<(), AllocError>
     ensures ok { OnOk result (string_bytes out.new ≡ string_bytes out.old
         ++ join_with_byte 44 (part_texts (entries (V.meaning value)))) }
-    ensures kept { IsPartAppended (string_bytes out.old)
+    ensures kept { IsBegun (string_bytes out.old)
         (join_with_byte 44 (part_texts (entries (V.meaning value)))) (string_bytes out.new) }
 {
     let mut position = 0;
@@ -119,7 +123,7 @@ fn push_parts<'d, V: Lent + 'd>(out: &mut String, value: V) -> Result<(), AllocE
 fn push_part<'d, V: Lent + 'd>(out: &mut String, part: (Step<'d>, V)) -> Result<(), AllocError>
     ensures ok { OnOk result (string_bytes out.new
         ≡ string_bytes out.old ++ part_text (step_with V.meaning part.entry)) }
-    ensures kept { IsPartAppended (string_bytes out.old) (part_text (step_with V.meaning part.entry))
+    ensures kept { IsBegun (string_bytes out.old) (part_text (step_with V.meaning part.entry))
         (string_bytes out.new) }
 {
     push_name(out, part.0)?;
@@ -130,7 +134,7 @@ fn push_part<'d, V: Lent + 'd>(out: &mut String, part: (Step<'d>, V)) -> Result<
 #[inline(always)]
 fn push_name(out: &mut String, step: Step<'_>) -> Result<(), AllocError>
     ensures ok { OnOk result (string_bytes out.new ≡ string_bytes out.old ++ name_text (step_of step.entry)) }
-    ensures kept { IsPartAppended (string_bytes out.old) (name_text (step_of step.entry))
+    ensures kept { IsBegun (string_bytes out.old) (name_text (step_of step.entry))
         (string_bytes out.new) }
 {
     match step {
@@ -147,7 +151,7 @@ fn push_name(out: &mut String, step: Step<'_>) -> Result<(), AllocError>
 fn push_comma(out: &mut String, position: usize) -> Result<(), AllocError>
     ensures ok { OnOk result (string_bytes out.new
         ≡ string_bytes out.old ++ (if position == 0 then [] else 44 ∷ [])) }
-    ensures kept { IsPartAppended (string_bytes out.old) (if position == 0 then [] else 44 ∷ [])
+    ensures kept { IsBegun (string_bytes out.old) (if position == 0 then [] else 44 ∷ [])
         (string_bytes out.new) }
 {
     if position > 0 { out.push(',') } else { Ok(()) }

@@ -55,13 +55,13 @@ module _ {I R W E : Type 0} (opens : I → List ℕ → Result R Unopened → I 
     unread-query wanted extent query (why.Fault (fault.Query r)) stops = absurd stops
     unread-query wanted extent query (why.Fault (fault.Document d)) stops = absurd stops
     unread-query wanted extent query (why.Fault fault.DocumentTooLarge) stops = absurd stops
-    unread-query wanted extent query (why.Expression r) stops = absurd stops
+    unread-query wanted extent query (why.Expression text r) stops = absurd stops
 
     -- an expression
     pub unread-expression : (text : List ℕ) (given : Unbegun) → StopsAtExpression job.profile text given
         → Runs (record job { request = KeepBy text }) a a o o u u (Err given)
-    unread-expression text (why.Expression r) stops =
-        refused (why.Expression r) refl stops refl refl refl
+    unread-expression text (why.Expression other r) stops =
+        refused (why.Expression other r) refl stops refl refl refl
     unread-expression text (why.Fault fault.NoMemory) stops = exhausted refl refl refl refl
     unread-expression text (why.Fault fault.Write) stops = absurd stops
     unread-expression text (why.Fault fault.Read) stops = absurd stops
@@ -82,7 +82,7 @@ module _ {I R W E : Type 0} (opens : I → List ℕ → Result R Unopened → I 
     unread-queries style named queries (why.Fault (fault.Query r)) stops = absurd stops
     unread-queries style named queries (why.Fault (fault.Document d)) stops = absurd stops
     unread-queries style named queries (why.Fault fault.DocumentTooLarge) stops = absurd stops
-    unread-queries style named queries (why.Expression r) stops = absurd stops
+    unread-queries style named queries (why.Expression text r) stops = absurd stops
 
   module _ (job : Job) (a b : I) (o p : W) (u v : E) where
     -- a run that did not begin told nothing

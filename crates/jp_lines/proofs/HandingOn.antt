@@ -21,7 +21,7 @@ use Rattle.jp_lines.specs.declared.options.Options.{Options}
 -- what did not begin has another status
 unbegun-is_told : (given : Unbegun) → status_of_unbegun given ≡ 0 → ⊥
 unbegun-is_told (why.Query text r) is = omega (arith, is)
-unbegun-is_told (why.Expression r) is = omega (arith, is)
+unbegun-is_told (why.Expression text r) is = omega (arith, is)
 unbegun-is_told (why.Fault f) is = fault-is_told f is
 
 -- and what a failed write ended

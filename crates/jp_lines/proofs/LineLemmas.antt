@@ -14,8 +14,9 @@ use Rattle.jp_document.specs.declared.fault.DocumentFault.{DocumentFault}
 use Rattle.jp_document.specs.declared.fault.DocumentFault.TheVariants as document
 use Rattle.jp_limit.specs.OutputLimit.{StaysWithin}
 use Rattle.jp_command.specs.Limits.{document_limit}
-use Rattle.jp_command.specs.Output.{AppendsPrefix, StopsWriting, WritesAll}
+use Rattle.jp_command.specs.Output.{AppendsPrefix, WritesAll}
 use Rattle.jp_command.specs.Selecting.{IsBeyond}
+use Rattle.jp_command.specs.Written.{StopsWriting}
 use Rattle.jp_command.specs.declared.selection_fault.SelectionFault.{SelectionFault}
 use Rattle.jp_command.specs.declared.selection_fault.SelectionFault.TheVariants as selection
 use Rattle.jp_command.specs.declared.fault.Fault.{Fault}

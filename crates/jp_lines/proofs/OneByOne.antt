@@ -65,4 +65,4 @@ module _ (profile : Profile) where
   stops-reading texts text (Fault (fault.Query r)) stops first = absurd stops
   stops-reading texts text (Fault (Document d)) stops first = absurd stops
   stops-reading texts text (Fault DocumentTooLarge) stops first = absurd stops
-  stops-reading texts text (Expression r) stops first = absurd stops
+  stops-reading texts text (Expression other r) stops first = absurd stops

@@ -4,7 +4,8 @@ use Rattle.std.proofs.Common.{Ok, Err, IfErr, OnOk, OnErr}
 use Rattle.std.proofs.Common.{subst, refl, sym, ◌∙◌, ap, append_assoc}
 use Rattle.std.proofs.lemmas.List.{append-nil}
 use Rattle.std.specs.Io.KnownBytes.{Appends}
-use Rattle.jp_command.specs.Output.{AppendsPrefix, StopsWriting, WritesAll}
+use Rattle.jp_command.specs.Output.{AppendsPrefix, WritesAll}
+use Rattle.jp_command.specs.Written.{StopsWriting}
 use Rattle.jp_command.specs.declared.fault.Fault.{Fault}
 use Rattle.jp_command.specs.declared.fault.Fault.TheVariants as fault
 use Rattle.jp_command.proofs.Streams.{Appends-twice}

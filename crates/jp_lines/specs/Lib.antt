@@ -9,6 +9,7 @@ pub mod Reads
 pub mod Told
 pub mod Run
 pub mod CommandLine
+pub mod Words
 pub mod Expression
 pub mod Inputs
 pub mod Files

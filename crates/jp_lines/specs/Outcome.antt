@@ -1,5 +1,5 @@
 -- What the lines of an input come to: a document with what is written of it, nothing, or a defect.
-use Rattle.std.specs.Prelude.{◌≡◌, ◌≢◌, ◌⊎◌, ℕ, suc, ◌+◌, ◌-◌, ◌^◌, ◌<◌, ◌≤◌, ◌==◌, Bool, true, false}
+use Rattle.std.specs.Prelude.{◌≡◌, ◌≢◌, ◌⊎◌, ℕ, suc, ◌+◌, ◌-◌, ◌^◌, ◌<◌, ◌≤◌, Bool, true, false}
 use Rattle.std.specs.Prelude.{List}
 use Rattle.std.specs.Prelude.{[], ◌∷◌, ◌++◌, Option, Some, None, length, codes, if◌then◌else◌}
 use Rattle.std.specs.Prelude.{string_bytes, take}
@@ -17,7 +17,7 @@ use Rattle.jp_json.specs.Told.{misreading_text}
 use Rattle.jp_json.specs.declared.misreading.Misreading.{Misreading}
 use Rattle.jp_json.specs.declared.reason.JsonReason.{JsonReason}
 use Rattle.jp_json.specs.declared.reason.JsonReason.TheVariants.{AfterValue, EndInArray, EndInObject}
-use Rattle.jp_json.specs.declared.reason.JsonReason.TheVariants.{Unexpected}
+use Rattle.jp_json.specs.declared.reason.JsonReason.TheVariants.{RecordSeparator}
 use Rattle.jp_lines.specs.Lines.{is_blank_line}
 use Rattle.jp_lines.specs.Task.{Task, mark_behind_number, selected_in, written_for}
 use Rattle.jp_lines.specs.declared.defect.Defect.{Defect}
@@ -114,27 +114,20 @@ abbrev pub tally_of : List LineOutcome → Tally
 tally_of [] = record { documents = 0; refused = 0; selected = 0 }
 tally_of (x ∷ xs) = plus (tally_in x) (tally_of xs)
 
--- a record separator stands at the front (RFC 7464 section 2.2)
-abbrev pub begins_record : List ℕ → Bool
-begins_record [] = false
-begins_record (byte ∷ bytes) = byte == 30
-
 -- What is said more of a line that is misread, where it shows another form than one document a line:
 -- several documents on a line, one that goes over several lines, or JSON text sequences (RFC 7464).
-abbrev pub hint_of : JsonReason → List ℕ → List ℕ
-hint_of AfterValue line = codes " Each line holds one document."
-hint_of EndInArray line = codes " A document ends with its line: jq -c . writes each on one."
-hint_of EndInObject line = codes " A document ends with its line: jq -c . writes each on one."
-hint_of Unexpected line = if begins_record line
-    then codes " A record separator (RFC 7464) stands before the document: tr -d '\\036' takes it away."
-    else []
-hint_of _ line = []
+abbrev pub hint_of : JsonReason → List ℕ
+hint_of AfterValue = codes " Each line holds one document."
+hint_of EndInArray = codes " A document ends with its line: jp eval '$' writes it on one."
+hint_of EndInObject = codes " A document ends with its line: jp eval '$' writes it on one."
+hint_of RecordSeparator = codes " tr -d '\\036' takes it away."
+hint_of _ = []
 
 -- the text says how the line is misread, at the input's line of that number, and a newline ends it
 pub record IsMisreadAs (number : ℕ) (line text : List ℕ) : Type 0 where
   pub m : Misreading
   pub misread : IsMisreading line m
-  pub is : text ≡ misreading_text (record m { line = number }) ++ (hint_of m.reason line ++ codes "\n")
+  pub is : text ≡ misreading_text (record m { line = number }) ++ (hint_of m.reason ++ codes "\n")
 
 -- what is told behind a defect of the line: of one that is no document, where that is asked for, how it
 -- is misread, unless memory ran out for it; and else nothing

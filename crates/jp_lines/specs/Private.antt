@@ -1,5 +1,5 @@
 -- What the contracts of private functions alone cite: what one line comes to, how chunks are
--- gone through, what is told of a run that stopped, and of words that are no command.
+-- gone through, and what is told of a run that stopped.
 pub mod Answers
 pub mod Limits
 pub mod Halting
@@ -8,4 +8,3 @@ pub mod Passing
 pub mod Treating
 pub mod Asking
 pub mod Telling
-pub mod Words

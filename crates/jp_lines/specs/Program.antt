@@ -7,9 +7,10 @@ use Rattle.clap.specs.Words.{IsAmong, fault_of}
 use Rattle.clap.specs.declared.error.kind.ErrorKind.{ErrorKind}
 use Rattle.clap.specs.declared.error.kind.ErrorKind.TheVariants as kind
 use Rattle.jp_check.specs.declared.profile.Profile.{Profile}
-use Rattle.jp_command.specs.Line.{TellsExplained, fault_line, fault_text, status_of}
-use Rattle.jp_command.specs.Output.{AppendsPrefix, AppendsSome, StopsWriting, WritesAll}
+use Rattle.jp_command.specs.Line.{TellsExplained, TellsExpression, fault_line, fault_text, status_of}
+use Rattle.jp_command.specs.Output.{AppendsPrefix, AppendsSome, WritesAll}
 use Rattle.jp_command.specs.Run.{RefusesQuery}
+use Rattle.jp_command.specs.Written.{StopsWriting}
 use Rattle.jp_command.specs.declared.fault.Fault.{Fault}
 use Rattle.jp_command.specs.declared.fault.Fault.TheVariants.{NoMemory, Query, Write}
 use Rattle.jp_query.specs.declared.refusal.Refusal.{Refusal}
@@ -56,13 +57,13 @@ status_of_halt (halt.Fault fault) = status_of fault
 -- the line of what keeps a run from its beginning
 abbrev pub unbegun_line : Unbegun → List ℕ
 unbegun_line (unbegun.Query text r) = fault_line (Query r)
-unbegun_line (unbegun.Expression r) = fault_line (Query r)
+unbegun_line (unbegun.Expression text r) = fault_line (Query r)
 unbegun_line (unbegun.Fault fault) = fault_line fault
 
 -- its status
 abbrev pub status_of_unbegun : Unbegun → ℕ
 status_of_unbegun (unbegun.Query text r) = 1
-status_of_unbegun (unbegun.Expression r) = 1
+status_of_unbegun (unbegun.Expression text r) = 1
 status_of_unbegun (unbegun.Fault fault) = status_of fault
 
 -- The status of a run over all inputs: some could not be read to their ends; or some lines are refused;
@@ -108,17 +109,24 @@ module _ {E : Type 0} (reports : E → Option (List ℕ)) (reports_failed : E �
     pub prefix : TellsExplained profile query r (reports u) (reports v)
     pub silent : reports_failed u ≡ true → v ≡ u
 
+  -- the same of a refused expression
+  pub record TellsRefusedExpression (profile : Profile) (expression : List ℕ) (r : Refusal) (u v : E)
+      : Type 0 where
+    pub prefix : TellsExpression profile expression r (reports u) (reports v)
+    pub silent : reports_failed u ≡ true → v ≡ u
+
   -- the same of a write that failed, but nothing where what reads the output hung up
   abbrev pub TellsWriteFault : Bool → E → E → Type 0
   TellsWriteFault hung_up u v = ((hung_up ≡ true) × (v ≡ u))
       ⊎ ((hung_up ≡ false) × TellsLine (fault_line Write) u v)
 
-  -- why a run did not begin: behind the line of a refused query stands an explanation, unless memory ran
-  -- out for it
+  -- why a run did not begin: behind the line of a refused query or expression stands an explanation, unless
+  -- memory ran out for it
   abbrev pub TellsUnbegun : Profile → Unbegun → Bool → E → E → Type 0
   TellsUnbegun profile (unbegun.Query text r) hung_up u v =
       TellsLine (fault_line (Query r)) u v ⊎ TellsRefusal profile text.now r u v
-  TellsUnbegun profile (unbegun.Expression r) hung_up u v = TellsLine (fault_line (Query r)) u v
+  TellsUnbegun profile (unbegun.Expression text r) hung_up u v =
+      TellsLine (fault_line (Query r)) u v ⊎ TellsRefusedExpression profile text.now r u v
   TellsUnbegun profile (unbegun.Fault Write) hung_up u v = TellsWriteFault hung_up u v
   TellsUnbegun profile (unbegun.Fault fault) hung_up u v = TellsLine (fault_line fault) u v
 
@@ -151,7 +159,8 @@ module _ {E : Type 0} (reports : E → Option (List ℕ)) (reports_failed : E �
 abbrev pub IsRefusedAs : Profile → Request → Unbegun → Type 0
 IsRefusedAs profile (SelectBy wanted extent query) (unbegun.Query text r) =
     (text.now ≡ query) × RefusesQuery profile query r
-IsRefusedAs profile (KeepBy expression) (unbegun.Expression r) = RefusesFilter profile expression r
+IsRefusedAs profile (KeepBy expression) (unbegun.Expression text r) =
+    (text.now ≡ expression) × RefusesFilter profile expression r
 IsRefusedAs profile (ColumnsBy style named queries) (unbegun.Query text r) =
     RefusesFirst profile queries r text.now
 IsRefusedAs _ _ _ = ⊥

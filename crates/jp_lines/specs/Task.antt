@@ -2,7 +2,7 @@
 use Rattle.std.specs.Prelude.{ℕ, Bool, List, [], ◌++◌, codes, if◌then◌else◌, length, take}
 use Rattle.std.specs.Fmt.{decimal}
 use Rattle.std.specs.List.{flat_map}
-use Rattle.jp_command.specs.Lines.{line_behind}
+use Rattle.jp_command.specs.Lead.{line_behind}
 use Rattle.jp_reading.specs.Characters.{tab}
 use Rattle.jp_cells.specs.Columns.{columns_text, nodes_in}
 use Rattle.jp_cells.specs.Rows.{separator}

@@ -5,12 +5,12 @@ ghost use Rattle.jp_tree.specs.Views.{query_of};
 ghost use Rattle.jp_evaluate.specs.Plan.{Serves, nodes_read};
 ghost use Rattle.jp_reading.specs.Characters.{tab};
 ghost use Rattle.jp_command.specs.Limits.{document_limit};
+ghost use Rattle.jp_command.specs.Written.{StopsWriting};
 ghost use Rattle.jp_lines.specs.Lines.{is_blank_line};
 ghost use Rattle.jp_lines.specs.Outcome.{lead_of};
 ghost use Rattle.jp_lines.specs.Private.Answers.{AnswersOrRefuses, HasPlan, ServesTask};
 ghost use Rattle.jp_lines.specs.Private.Answers.{StopsAnswering, defect_of};
 ghost use Rattle.jp_lines.specs.Private.Limits.{WritesOrGivesUp, WritesWithin};
-ghost use Rattle.jp_command.specs.Output.{StopsWriting};
 ghost use Rattle.jp_lines.specs.Task.{nodes_output, nodes_within};
 ghost use Rattle.jp_lines.specs.Views.{selection_task, task_of};
 

@@ -18,7 +18,9 @@ use crate::tally::Tally;
 use crate::task::Request;
 use crate::telling::tell;
 use jp_check::Profile;
-use jp_command::{Fault, Output, Writer, report, report_refusal, status, write_all};
+use jp_command::{
+    Fault, Output, Writer, report, report_refusal, report_refused_expression, status, write_all,
+};
 use std::alloc::{AllocError, Global};
 
 /// Tells how a run ended, and what is asked for at its end, and answers its status. Where a write failed
@@ -117,7 +119,7 @@ pub(crate) fn tell_fault<E: Writer>(alloc: Global, fault: &Fault, faults: &mut E
 }
 
 /// Tells why a run did not begin, unless a write to `faults` has failed before, or a write failed because
-/// what reads the output hung up. Behind the line of a refused query stands why it is refused. What cannot be
+/// what reads the output hung up. Behind the line of a refused query or expression stands why it is refused. What cannot be
 /// written, or for which there is no memory, is left out.
 pub(crate) fn tell_unbegun<W: Output, E: Writer>(
     alloc: Global,
@@ -135,7 +137,11 @@ pub(crate) fn tell_unbegun<W: Output, E: Writer>(
                 report_refusal(alloc, text, profile, *refusal, faults);
             }
         }
-        Unbegun::Expression(refusal) => tell_fault(alloc, &Fault::Query(*refusal), faults),
+        Unbegun::Expression(text, refusal) => {
+            if !faults.failed() {
+                report_refused_expression(alloc, text, profile, *refusal, faults);
+            }
+        }
         Unbegun::Fault(Fault::Write) => tell_write_fault(alloc, output, faults),
         Unbegun::Fault(fault) => tell_fault(alloc, fault, faults),
     }

@@ -322,6 +322,7 @@ pub(crate) fn jp_lines_command<'w>(alloc: Global) -> Result<Command<'w>, AllocEr
     let command = with_columns(alloc, command)?
         .version(VERSION)
         .about("Runs a JSONPath query (RFC 9535) over JSON documents, one a line")
+        .override_usage("jp-lines <COMMAND>")
         .after_help(AFTER_HELP);
     Ok(command.subcommand_required(true))
 }

@@ -11,9 +11,6 @@ use jp_document::DocumentFault;
 use jp_json::{JsonReason, Misreading, misreading_of};
 use std::alloc::{AllocError, Global};
 
-/// U+001E, which begins each text of a JSON text sequence (RFC 7464 section 2.2).
-const RECORD_SEPARATOR: u8 = 0x1e;
-
 /// What is told behind the defect of a line that is told, which has that defect: why and where it is no
 /// document, where that is asked for, and else nothing, as where there is no memory for it.
 pub(crate) fn explanation(
@@ -48,7 +45,7 @@ fn misread_line(
     ensures { IfOk result (λ text. IsMisreadAs number line.now (string_bytes text)) }
 {
     let misreading = misreading_of(alloc, line, fault)?;
-    let hint = hint(misreading.reason, line);
+    let hint = hint(misreading.reason);
     let told = Misreading {
         line: number as usize,
         ..misreading
@@ -57,17 +54,15 @@ fn misread_line(
 }
 
 /// What is said more of a line that shows another form than one document a line, behind a space.
-fn hint(reason: JsonReason, line: &[u8]) -> &'static str
-    ensures { result.now ≡ hint_of reason line.now }
+fn hint(reason: JsonReason) -> &'static str
+    ensures { result.now ≡ hint_of reason }
 {
     match reason {
         JsonReason::AfterValue => " Each line holds one document.",
         JsonReason::EndInArray | JsonReason::EndInObject => {
-            " A document ends with its line: jq -c . writes each on one."
+            " A document ends with its line: jp eval '$' writes it on one."
         }
-        JsonReason::Unexpected if line.first() == Some(&RECORD_SEPARATOR) => {
-            " A record separator (RFC 7464) stands before the document: tr -d '\\036' takes it away."
-        }
+        JsonReason::RecordSeparator => " tr -d '\\036' takes it away.",
         _ => "",
     }
 }

@@ -65,8 +65,8 @@ impl From<AllocError> for Halt {
 pub(crate) enum Unbegun<'w> {
     /// The query of this text is refused.
     Query(&'w str, Refusal),
-    /// The expression is refused.
-    Expression(Refusal),
+    /// The expression of this text is refused.
+    Expression(&'w str, Refusal),
     /// Memory ran out, or the names of columns could not be written.
     Fault(Fault),
 }

@@ -9,7 +9,7 @@ it over each line of the FILEs, which is one JSON document; - is the standard in
 read where no FILE is named. Lines of blanks alone hold none. A line that is no document, a FILE
 that can't be read, and a document that takes more steps than --limit says, or of which more comes
 out than --max-nodes and --max-bytes say, end the run, unless --keep-going is given.
-A refused query is explained, and with --explain a line that is no document, too.
+A refused query or expression is explained, and with --explain a line that is no document.
 
 Example: printf '{\"a\":1}\\n{\"a\":2}\\n' | jp-lines eval '$.a'
 

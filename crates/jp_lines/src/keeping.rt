@@ -2,7 +2,8 @@
 
 ghost use Rattle.std.specs.Prelude.{◌++◌, IfErr, IfOk, OnOk, codes};
 ghost use Rattle.jp_tree.specs.Views.{expr_of};
-ghost use Rattle.jp_command.specs.Output.{StopsWriting, WritesAll};
+ghost use Rattle.jp_command.specs.Output.{WritesAll};
+ghost use Rattle.jp_command.specs.Written.{StopsWriting};
 ghost use Rattle.jp_lines.specs.Private.Limits.{WritesOrGivesUp, WritesWithin};
 ghost use Rattle.jp_lines.specs.Task.{Keep, selected_in, written_for};
 

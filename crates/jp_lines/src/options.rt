@@ -17,7 +17,8 @@ pub enum Wanted {
 
 /// Of which of the selected nodes it is written.
 #[derive(Debug, Clone, Copy, PartialEq, Eq)]
-pub(crate) enum Extent {
+pub enum Extent {
+    /// All of them.
     All,
     /// The first alone, where the evaluation stops.
     First,

@@ -35,7 +35,7 @@ pub(crate) fn read_query<'w>(
 /// The expression of this text.
 pub(crate) fn read_keeping<'w>(
     alloc: Global,
-    text: &str,
+    text: &'w str,
     profile: Profile,
 ) -> Result<CheckedFilter, Unbegun<'w>>
     ensures read { IfOk result (λ filter. IsFilterAsked profile text.now (expr_of filter.expr)) }
@@ -45,7 +45,7 @@ pub(crate) fn read_keeping<'w>(
         Ok(filter) => Ok(filter),
         Err(refusal) => Err(match refusal.kind {
             RefusalKind::NoMemory => Unbegun::Fault(Fault::NoMemory),
-            _ => Unbegun::Expression(refusal),
+            _ => Unbegun::Expression(text, refusal),
         }),
     }
 }

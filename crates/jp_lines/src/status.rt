@@ -58,7 +58,7 @@ pub(crate) fn status_of_unbegun(why: &Unbegun<'_>) -> u8
     ensures { result ≡ status_of_unbegun why.now }
 {
     match why {
-        Unbegun::Query(..) | Unbegun::Expression(_) => 1,
+        Unbegun::Query(..) | Unbegun::Expression(..) => 1,
         Unbegun::Fault(fault) => status(fault),
     }
 }

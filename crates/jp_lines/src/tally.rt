@@ -18,8 +18,8 @@ pub struct Tally {
 }
 
 impl Tally {
-    /// Of no lines.
-    pub(crate) fn none() -> Tally
+    /// The tally of no lines.
+    pub fn none() -> Tally
         ensures { result ≡ tally_of [] }
     {
         Tally {
@@ -29,8 +29,8 @@ impl Tally {
         }
     }
 
-    /// Of a document that is answered, in which so many nodes are selected.
-    pub(crate) fn of_document(selected: u64) -> Tally
+    /// The tally of one line, whose document is answered and has so many selected nodes.
+    pub fn of_document(selected: u64) -> Tally
         ensures { (output : List ℕ) → result ≡ tally_in (Answered selected output) }
     {
         Tally {
@@ -40,8 +40,8 @@ impl Tally {
         }
     }
 
-    /// Of a line that is refused.
-    pub(crate) fn of_refusal() -> Tally
+    /// The tally of one line, which is refused.
+    pub fn of_refusal() -> Tally
         ensures { (line : RefusedLine) → result ≡ tally_in (Refused line) }
     {
         Tally {
@@ -51,9 +51,9 @@ impl Tally {
         }
     }
 
-    /// Of these lines and more. An error says that a number does not fit 64 bits, which counts as want
-    /// of memory.
-    pub(crate) fn with(self, more: Tally) -> Result<Tally, AllocError>
+    /// The tally of these lines and of more: each number is the sum of both. The only error is that a sum does not
+    /// fit 64 bits, which counts as want of memory.
+    pub fn with(self, more: Tally) -> Result<Tally, AllocError>
         ensures both { IfOk result (λ both. both ≡ plus self more) }
         ensures beyond { OnErr result (Overflows (plus self more)) }
     {

@@ -7,7 +7,7 @@ use jp_evaluate::Plan;
 
 /// What is asked of each document, in the texts of the words.
 #[derive(Drop)]
-pub(crate) enum Request<'w> {
+pub enum Request<'w> {
     /// To write what is wanted of the nodes that the query of this text selects.
     SelectBy(Wanted, Extent, &'w str),
     /// To write the line where the expression of this text is true.
@@ -19,13 +19,16 @@ pub(crate) enum Request<'w> {
 
 /// What the words of a command line ask for.
 #[derive(Drop)]
-pub(crate) struct Job<'w> {
-    pub(crate) options: Options,
-    pub(crate) request: Request<'w>,
+pub struct Job<'w> {
+    /// How the run goes over the lines of its inputs.
+    pub options: Options,
+    /// What is asked of each document.
+    pub request: Request<'w>,
     /// The names of the inputs, in order, `-` for the standard input; none where none is named, which
     /// means the standard input alone.
-    pub(crate) inputs: Vec<&'w str>,
-    pub(crate) profile: Profile,
+    pub inputs: Vec<&'w str>,
+    /// The profile of jp_check in which queries and expressions are read.
+    pub profile: Profile,
 }
 
 /// What a run does with each document.

@@ -11,9 +11,9 @@ ghost use Rattle.jp_lines.specs.CommandLine.{options_asked, output_limit_asked, 
 ghost use Rattle.jp_lines.specs.CommandLine.{request_by, selection_by, style_asked, wanted_called};
 ghost use Rattle.jp_lines.specs.CommandLine.{words_of};
 ghost use Rattle.jp_command.specs.CommandLine.{is_set};
-ghost use Rattle.jp_lines.specs.Private.Words.{IsNoCommand};
 ghost use Rattle.jp_lines.specs.Request.{ColumnsBy, KeepBy};
 ghost use Rattle.jp_lines.specs.Views.{job_of, request_of};
+ghost use Rattle.jp_lines.specs.Words.{IsNoCommand};
 
 use crate::commands::{jp_lines_command, no_query};
 use crate::options::{Extent, Options, Wanted};
@@ -272,8 +272,9 @@ fn asked_in<'w>(alloc: Global, matches: &ArgMatches<'w>) -> Result<Option<Job<'w
     }
 }
 
-/// What `words`, of which the first is the program's name, ask for, or clap's error.
-pub(crate) fn read_words<'w>(alloc: Global, words: &'w [String]) -> Result<Job<'w>, Error>
+/// What `words`, of which the first is the program's name, ask for. The error is clap's: the words are no command,
+/// ask for help or for the version, or memory ran out (`OutOfMemory`).
+pub fn read_words<'w>(alloc: Global, words: &'w [String]) -> Result<Job<'w>, Error>
     ensures asked { IfOk result (λ job.
         asked (map string_bytes words.entry.now) ≡ Some (job_of job)) }
     ensures refused { IfErr result (λ error. (kind_of error ≡ OutOfMemory)

@@ -6,5 +6,6 @@ pub mod NumberReading
 pub mod Outcome
 pub mod Rule
 pub mod RuleReading
+pub mod Sentences
 pub mod Texts
 pub mod Views

@@ -5,7 +5,7 @@ use Rattle.std.specs.List.{slice_get}
 use Rattle.std.specs.Option.{is_some, option_map}
 use Rattle.std.proofs.lemmas.Option.{same_Some}
 use Rattle.jp_document.specs.Location.{child, child_entry, entries, items_from, nth}
-use Rattle.jp_document.specs.Value.{Value, null, boolean, whole, text, list, object}
+use Rattle.jp_document.specs.Value.{Value, null, boolean, whole, decimal, text, list, object}
 use Rattle.jp_document.specs.Value.{Items, no_items, item, item_count, items_of, list_length}
 use Rattle.jp_document.proofs.Descent.Entries.{at_index, item_entry}
 use Rattle.jp_document.proofs.Descent.Items.{child-nth}
@@ -37,6 +37,7 @@ pub item-there : (v : Value) (n i : ℕ) → list_length v ≡ Some n → i < n
 item-there null n i is within = absurd (cc)
 item-there (boolean b) n i is within = absurd (cc)
 item-there (whole z) n i is within = absurd (cc)
+item-there (decimal c e) n i is within = absurd (cc)
 item-there (text s) n i is within = absurd (cc)
 item-there (list vs) n i is within =
     ap is_some (child-item vs i)
@@ -50,6 +51,7 @@ pub item-at : (v : Value) (n i : ℕ) → list_length v ≡ Some n
 item-at null n i is = absurd (cc)
 item-at (boolean b) n i is = absurd (cc)
 item-at (whole z) n i is = absurd (cc)
+item-at (decimal c e) n i is = absurd (cc)
 item-at (text s) n i is = absurd (cc)
 item-at (list vs) n i is =
     ap (λ us. slice_get (items_from 0 us) i) (sym (items_of-item_list vs))

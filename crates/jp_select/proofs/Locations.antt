@@ -9,7 +9,7 @@ use Rattle.std.proofs.lemmas.Option.{same_Some}
 use Rattle.jp_document.specs.Location.{Step, named, nth, Location, items_from}
 use Rattle.jp_document.specs.Location.{members_by_name, entries, child, value_at}
 use Rattle.jp_document.specs.Node.{Node, StandsIn, node_at, node_below, root_of}
-use Rattle.jp_document.specs.Value.{Value, null, boolean, whole, text, list, object, Items}
+use Rattle.jp_document.specs.Value.{Value, null, boolean, whole, decimal, text, list, object, Items}
 use Rattle.jp_document.specs.Value.{no_items, item, Members, no_members, member, IsDocumentValue}
 use Rattle.jp_document.proofs.Descent.Inside.{IsDocumentValue-child}
 use Rattle.jp_document.proofs.Descent.Entries.{child-entry}
@@ -49,6 +49,7 @@ pub nodes_in-entries : (v : Value) → nodes_in v ≡ root_of v ∷ flat_map inn
 nodes_in-entries null = refl
 nodes_in-entries (boolean b) = refl
 nodes_in-entries (whole z) = refl
+nodes_in-entries (decimal c e) = refl
 nodes_in-entries (text s) = refl
 nodes_in-entries (list vs) = ap (λ t. root_of (list vs) ∷ t) (items-inner 0 vs)
 nodes_in-entries (object ms) = ap (λ t. root_of (object ms) ∷ t) (members-inner ms)
@@ -63,6 +64,7 @@ mutual
   by_children P step null = step null (λ i k w is. absurd (cc))
   by_children P step (boolean b) = step (boolean b) (λ i k w is. absurd (cc))
   by_children P step (whole z) = step (whole z) (λ i k w is. absurd (cc))
+  by_children P step (decimal c e) = step (decimal c e) (λ i k w is. absurd (cc))
   by_children P step (text s) = step (text s) (λ i k w is. absurd (cc))
   by_children P step (list vs) = step (list vs) (by_items P step vs 0)
   by_children P step (object ms) = step (object ms) (by_members P step ms)

@@ -1,7 +1,7 @@
 -- The sides of comparisons (RFC 9535 section 2.3.5.1).
 use Rattle.std.specs.Prelude.{Option, Some, None, option_map}
 use Rattle.std.specs.Borrow.{Bor}
-use Rattle.jp_document.specs.Value.{Value, null, boolean, whole, text, value_of}
+use Rattle.jp_document.specs.Value.{Value, null, boolean, whole, decimal, text, value_of}
 use Rattle.jp_document.specs.declared.value.Json.{Json}
 use Rattle.jp_select.specs.declared.comparable.Comparable.{Comparable}
 use Rattle.jp_select.specs.declared.comparable.Comparable.TheVariants as side
@@ -12,6 +12,7 @@ comparable_of f side.Nothing = None
 comparable_of f side.Null = Some null
 comparable_of f (side.Bool b) = Some (boolean b)
 comparable_of f (side.Whole z) = Some (whole z)
+comparable_of f (side.Decimal e c) = Some (decimal c e)
 comparable_of f (side.Text s) = Some (text s.now)
 comparable_of f (side.Lent v) = Some (f v)
 

@@ -1,9 +1,11 @@
 -- Comparisons of values and of Nothing (RFC 9535 section 2.3.5.2.2). Nothing is None.
-use Rattle.std.specs.Prelude.{ℕ, Bool, true, false, not, ◌&&◌, ◌||◌, ◌==◌, nat_lt}
+use Rattle.std.specs.Prelude.{ℕ, ℤ, Bool, true, false, not, ◌&&◌, ◌||◌, ◌==◌, nat_lt}
 use Rattle.std.specs.Prelude.{int_lt, List, [], ◌∷◌, Option, Some, None, bytes_eq}
-use Rattle.std.specs.Ordering.{int_eq}
+use Rattle.std.specs.Ordering.{int_eq, is_lt}
 use Rattle.std.specs.Str.{chars}
-use Rattle.jp_document.specs.Value.{Value, null, boolean, whole, text, list, object}
+use Rattle.jp_decimal.specs.Number.{unscaled}
+use Rattle.jp_decimal.specs.Scaled.{Scaled, scaled_cmp}
+use Rattle.jp_document.specs.Value.{Value, null, boolean, whole, decimal, text, list, object}
 use Rattle.jp_document.specs.Value.{Items, no_items, item, Members, no_members, member}
 use Rattle.jp_tree.specs.declared.tree.Op.{Op}
 use Rattle.jp_tree.specs.declared.tree.Op.TheVariants.{Equal, Unequal, Less, LessEqual}
@@ -18,6 +20,7 @@ abbrev mutual
   same_value (boolean true) (boolean true) = true
   same_value (boolean false) (boolean false) = true
   same_value (whole x) (whole y) = int_eq x y
+  same_value (decimal c e) (decimal d f) = int_eq c d && int_eq e f
   same_value (text s) (text t) = bytes_eq s t
   same_value (list vs) (list ws) = same_items vs ws
   same_value (object ms) (object ns) = same_members ms ns
@@ -50,9 +53,20 @@ precedes cs [] = false
 precedes [] (d ∷ ds) = true
 precedes (c ∷ cs) (d ∷ ds) = nat_lt c d || ((c == d) && precedes cs ds)
 
+-- c times ten to the e
+abbrev pub scaled : ℤ → ℤ → Scaled
+scaled c e = record { coefficient = c; exponent = e }
+
+-- the one number is less than the other
+abbrev pub number_less : Scaled → Scaled → Bool
+number_less x y = is_lt (scaled_cmp x y)
+
 -- two numbers in order, or two texts
 abbrev pub value_less : Value → Value → Bool
 value_less (whole x) (whole y) = int_lt x y
+value_less (whole x) (decimal d f) = number_less (unscaled x) (scaled d f)
+value_less (decimal c e) (whole y) = number_less (scaled c e) (unscaled y)
+value_less (decimal c e) (decimal d f) = number_less (scaled c e) (scaled d f)
 value_less (text s) (text t) = precedes (chars s) (chars t)
 value_less _ _ = false
 

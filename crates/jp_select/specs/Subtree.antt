@@ -2,7 +2,7 @@
 use Rattle.std.specs.Prelude.{◌≡◌, ℕ, suc, List, [], ◌∷◌, ◌++◌, map, IsSome}
 use Rattle.jp_document.specs.Location.{Step, named, nth, Location, value_at}
 use Rattle.jp_document.specs.Node.{Node, root_of}
-use Rattle.jp_document.specs.Value.{Value, null, boolean, whole, text, list, object, Items}
+use Rattle.jp_document.specs.Value.{Value, null, boolean, whole, decimal, text, list, object, Items}
 use Rattle.jp_document.specs.Value.{no_items, item, Members, no_members, member}
 
 -- a node, as seen from one step before
@@ -15,6 +15,7 @@ abbrev mutual
   nodes_in null = root_of null ∷ []
   nodes_in (boolean b) = root_of (boolean b) ∷ []
   nodes_in (whole z) = root_of (whole z) ∷ []
+  nodes_in (decimal c e) = root_of (decimal c e) ∷ []
   nodes_in (text s) = root_of (text s) ∷ []
   nodes_in (list vs) = root_of (list vs) ∷ nodes_in_items 0 vs
   nodes_in (object ms) = root_of (object ms) ∷ nodes_in_members ms

@@ -2,14 +2,16 @@
 
 ghost use Rattle.std.specs.Prelude.{◌≡◌, ◌↔◌, ◌≤◌, ◌+◌, ◌-◌, ◌^◌, IfOk, IsTrue, MatchOption, OnErr, OnOk, Some, chars, false};
 ghost use Rattle.std.specs.Prelude.{length, min, option_map};
+ghost use Rattle.jp_decimal.specs.Number.{scaled_of};
 ghost use Rattle.jp_document.specs.Location.{entries, step_of};
 ghost use Rattle.jp_lent.specs.Lending.{bare, seen_value, step_with};
 ghost use Rattle.jp_select.specs.Comparable.{comparable_of};
-ghost use Rattle.jp_select.specs.Comparison.{equals, is_less, precedes};
+ghost use Rattle.jp_select.specs.Comparison.{equals, is_less, number_less, precedes, scaled};
 ghost use Rattle.jp_select.specs.Steps.{Counts, IsSpent, Takes, steps_of_two};
 ghost use Rattle.jp_select.specs.Private.Parts.{has_parts, same_key, same_part, same_parts};
 
 use crate::steps::{Steps, Stopped};
+use jp_decimal::{Decimal, Number, compare};
 use jp_document::Step;
 use jp_lent::{Lent, Seen};
 
@@ -20,6 +22,8 @@ pub enum Comparable<'a, V> {
     Null,
     Bool(bool),
     Whole(i128),
+    /// Any other number: the coefficient times ten to the exponent.
+    Decimal { exponent: i32, coefficient: i128 },
     Text(&'a str),
     Lent(V),
 }
@@ -45,6 +49,13 @@ impl<'a, V: Lent + 'a> Comparable<'a, V> {
             Comparable::Null => Some(Seen::Null),
             Comparable::Bool(truth) => Some(Seen::Bool(*truth)),
             Comparable::Whole(number) => Some(Seen::Whole(*number)),
+            Comparable::Decimal {
+                exponent,
+                coefficient,
+            } => Some(Seen::Decimal {
+                exponent: *exponent,
+                coefficient: *coefficient,
+            }),
             Comparable::Text(text) => Some(Seen::Text(text)),
             Comparable::Lent(value) => Some(value.seen()),
         }
@@ -60,7 +71,8 @@ impl<'a, V: Lent + 'a> Comparable<'a, V> {
         };
         match value.seen() {
             Seen::List | Seen::Members => Some(*value),
-            Seen::Null | Seen::Bool(_) | Seen::Whole(_) | Seen::Text(_) => None,
+            Seen::Null | Seen::Bool(_) | Seen::Whole(_) | Seen::Decimal { .. } | Seen::Text(_) =>
+                None,
         }
     }
 
@@ -136,6 +148,20 @@ fn looks_same(left: Option<Seen>, right: Option<Seen>) -> bool
         (Some(Seen::Null), Some(Seen::Null)) => true,
         (Some(Seen::Bool(left)), Some(Seen::Bool(right))) => left == right,
         (Some(Seen::Whole(left)), Some(Seen::Whole(right))) => left == right,
+        (
+            Some(
+                Seen::Decimal {
+                    exponent,
+                    coefficient,
+                },
+            ),
+            Some(
+                Seen::Decimal {
+                    exponent: power,
+                    coefficient: digits,
+                },
+            ),
+        ) => coefficient == digits && exponent == power,
         (Some(Seen::Text(left)), Some(Seen::Text(right))) => left == right,
         (Some(Seen::List), Some(Seen::List)) => true,
         (Some(Seen::Members), Some(Seen::Members)) => true,
@@ -150,8 +176,58 @@ fn looks_less(left: Option<Seen>, right: Option<Seen>) -> bool
     match (left, right) {
         (Some(Seen::Whole(left)), Some(Seen::Whole(right))) => left < right,
         (Some(Seen::Text(left)), Some(Seen::Text(right))) => precedes(left, right),
+        (
+            Some(Seen::Whole(left)),
+            Some(
+                Seen::Decimal {
+                    exponent,
+                    coefficient,
+                },
+            ),
+        ) => is_below(Number::Whole(left), decimal(coefficient, exponent)),
+        (
+            Some(
+                Seen::Decimal {
+                    exponent,
+                    coefficient,
+                },
+            ),
+            Some(Seen::Whole(right)),
+        ) => is_below(decimal(coefficient, exponent), Number::Whole(right)),
+        (
+            Some(
+                Seen::Decimal {
+                    exponent,
+                    coefficient,
+                },
+            ),
+            Some(
+                Seen::Decimal {
+                    exponent: power,
+                    coefficient: digits,
+                },
+            ),
+        ) => is_below(decimal(coefficient, exponent), decimal(digits, power)),
         _ => false,
     }
+}
+
+/// The number that a coefficient and an exponent write.
+fn decimal(coefficient: i128, exponent: i32) -> Number
+    ensures { scaled_of result ≡ scaled coefficient exponent }
+{
+    Number::Decimal(Decimal {
+        coefficient,
+        exponent,
+    })
+}
+
+/// Whether a number is below another, by their values and exactly.
+#[inline(never)]
+fn is_below(left: Number, right: Number) -> bool
+    ensures { result ≡ number_less (scaled_of left) (scaled_of right) }
+{
+    compare(left, right).is_lt()
 }
 
 /// Whether a text precedes another in the order of scalar values, which is that of the bytes.

@@ -120,7 +120,12 @@ fn whole_of<'a, V: Lent + 'a>(value: Option<V>) -> Option<i128>
 {
     match value?.seen() {
         Seen::Whole(number) => Some(number),
-        Seen::Null | Seen::Bool(_) | Seen::Text(_) | Seen::List | Seen::Members => None,
+        Seen::Null
+        | Seen::Bool(_)
+        | Seen::Decimal { .. }
+        | Seen::Text(_)
+        | Seen::List
+        | Seen::Members => None,
     }
 }
 

@@ -153,3 +153,37 @@ fn expressions_of_filters_are_read_alone(rt: HostRuntime) -> Result<(), Fail> {
     }
     Ok(())
 }
+
+/// Queries; whether an absolute query in a filter is answered once, and whether a query in one may come to a
+/// value by several ways.
+const NEEDS: [(&str, bool, bool); 14] = [
+    ("$..a..b", false, false),
+    ("$[?@.a]", false, false),
+    ("$[?@..a]", false, false),
+    ("$[?$.a[0]]", false, false),
+    ("$[?$.a[-1]]", true, false),
+    ("$[?@.a==$.b[-1]]", false, false),
+    ("$[?!(@.a&&$..b)]", true, false),
+    ("$[?@.a==value($..b)]", true, false),
+    ("$[?count($[*][*])>length(@.a)]", true, false),
+    ("$[?@.*.*]", false, false),
+    ("$[?@..a..b]", false, true),
+    ("$[?@.a||@['a','b']['c','d']]", false, true),
+    ("$[?1<count(@..a[0,0])]", false, true),
+    ("$..a[?@.b[?$.*[?@.*..a..b]]]", true, true),
+];
+
+#[test]
+fn needs_of_filters(rt: HostRuntime) -> Result<(), Fail> {
+    let alloc = rt.alloc();
+    for (text, answers, ways) in NEEDS {
+        let query = read_query(alloc, text, Standard).ok().ok_or("refused")?;
+        let needs = query.needs();
+        assert_eq!(rt; (needs.answers, needs.ways), (answers, ways), "{text}");
+    }
+    for (text, ways) in [("@.a..b", false), ("@..a..b", true)] {
+        let filter = read_filter(alloc, text, Standard).ok().ok_or("refused")?;
+        assert_eq!(rt; filter.needs().ways, ways, "{text}");
+    }
+    Ok(())
+}

@@ -7,6 +7,7 @@ mod hidden;
 mod kinds;
 mod names;
 mod numbers;
+mod operators;
 mod starts;
 mod tests_of_filters;
 
@@ -29,6 +30,7 @@ fn each_wrong_query_is_explained(rt: HostRuntime) -> Result<(), Fail> {
     assert_rows(&rt, alloc, names::ROWS)?;
     assert_rows(&rt, alloc, numbers::ROWS)?;
     assert_rows(&rt, alloc, comparisons::ROWS)?;
+    assert_rows(&rt, alloc, operators::ROWS)?;
     assert_rows(&rt, alloc, tests_of_filters::ROWS)
 }
 

@@ -3,6 +3,7 @@
 mod asked;
 mod documents;
 mod escapes;
+mod exact;
 mod locations;
 mod no_json;
 mod scattered_names;

@@ -1,5 +1,6 @@
 //! Bytes that are no documents, with the reason and the place of each.
 
+mod sentences;
 mod syntax;
 mod values;
 
@@ -25,6 +26,7 @@ fn each_wrong_text_has_its_reason_and_place(rt: HostRuntime) -> Result<(), Fail>
     assert_rows(&rt, alloc, syntax::ENDS)?;
     assert_rows(&rt, alloc, syntax::JOINTS)?;
     assert_rows(&rt, alloc, syntax::WORDS)?;
+    assert_rows(&rt, alloc, syntax::FORMS)?;
     assert_rows(&rt, alloc, syntax::SCALARS)?;
     assert_rows(&rt, alloc, values::SCALARS)
 }
@@ -33,6 +35,18 @@ fn assert_rows(rt: &impl Abort, alloc: Global, rows: &[Row]) -> Result<(), Fail>
     for (bytes, reason, place) in rows {
         let told = find_misreading(alloc, bytes)?;
         assert_told(rt, &told, *reason, *place, None);
+    }
+    Ok(())
+}
+
+#[test]
+fn each_wrong_text_has_its_sentence(rt: HostRuntime) -> Result<(), Fail> {
+    for (bytes, sentence) in sentences::ROWS {
+        let told = match find_misreading(rt.alloc(), bytes)? {
+            Some(told) => told.sentence,
+            None => "",
+        };
+        assert_eq!(rt; told, *sentence);
     }
     Ok(())
 }

@@ -11,6 +11,8 @@ mod document;
 #[cfg(test)]
 mod evaluate;
 #[cfg(test)]
+mod exact;
+#[cfg(test)]
 mod explain;
 #[cfg(test)]
 mod flat;

@@ -1,4 +1,5 @@
 //! Rows of selectors, of descendants and of comparisons.
 
 mod comparisons;
+mod decimals;
 mod selectors;

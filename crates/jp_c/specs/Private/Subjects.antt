@@ -1,19 +1,47 @@
--- The document of `jp_eval_many`, as it was read for all of the queries, and what each is answered.
-use Rattle.std.specs.Prelude.{ℕ, List, IfErr, IfOk, IfSome}
-use Rattle.jp_document.specs.Document.{IsDocument}
-use Rattle.jp_flat.specs.FlatValue.{document_in}
+-- The queries and the document of `jp_eval_many`, as they were read, and what each query is answered.
+use Rattle.std.specs.Prelude.{◌≡◌, ◌⊎◌, ℕ, List, Result, Some, IfErr, IfOk, IfSome, MatchResult}
+use Rattle.std.specs.Prelude.{slice_get}
+use Rattle.jp_check.specs.Checked.{Profiled}
+use Rattle.jp_check.specs.declared.profile.Profile.{Profile}
+use Rattle.jp_evaluate.specs.Plan.{HoldsPortion, Serves}
+use Rattle.jp_held.specs.declared.portion.Portion.{Portion}
+use Rattle.jp_query.specs.declared.refusal.Refusal.{Refusal}
+use Rattle.jp_query.specs.declared.refusal.RefusalKind.TheVariants.{NoMemory}
+use Rattle.jp_tree.specs.Views.{query_of}
 use Rattle.jsonpath.specs.Size.{Fits}
-use Rattle.jp_c.specs.Asked.{IsNoDocument}
+use Rattle.jp_c.specs.Asked.{IsAcceptedInBytes, IsNoDocument, RefusesBytes}
 use Rattle.jp_c.specs.Calls.{IsEvalOutcome}
 use Rattle.jp_c.specs.Limit.{Within}
+use Rattle.jp_c.specs.Many.{query_asked}
 use Rattle.jp_c.specs.Misread.{IsMisreadAt}
+use Rattle.jp_c.specs.Numbers.{profile_of}
+use Rattle.jp_c.specs.declared.many.Question.{Question}
 use Rattle.jp_c.specs.declared.many.Subject.{Subject}
 use Rattle.jp_c.specs.declared.outcome.Outcome as outcome
 
--- the tables are those of the document, or the fault is why it is none, and the place is where
+-- what was read of these bytes: they are accepted in the profile as the query, or refused so; running out
+-- of memory says nothing of them
+abbrev pub IsReadAs : Profile → List ℕ → Result Profiled Refusal → Type 0
+IsReadAs profile query read = MatchResult read (λ c. IsAcceptedInBytes profile query (query_of c.query))
+    (λ r. (r.kind ≡ NoMemory) ⊎ RefusesBytes profile query r)
+
+-- the same of a profile's number, if it has one; and that portion of a document serves the query
+pub record IsReadToServe (profile : ℕ) (portion : Portion) (query : List ℕ)
+    (read : Result Profiled Refusal) : Type 0 where
+  pub is : (p : Profile) → profile_of profile ≡ Some p → IsReadAs p query read
+  pub serves : IfOk read (λ c. Serves (query_of c.query) portion)
+
+-- so the queries of the first questions were read
+abbrev pub AreRead : ℕ → Portion → List ℕ → List Question → List (Result Profiled Refusal) → Type 0
+AreRead profile portion bytes questions reads =
+    (i : ℕ) (q : Question) (r : Result Profiled Refusal)
+    → slice_get questions i ≡ Some q → slice_get reads i ≡ Some r
+    → IsReadToServe profile portion (query_asked bytes q) r
+
+-- the tables hold that portion of the document, or the fault is why it is none, and the place is where
 abbrev pub IsSound : Subject → Type 0
 IsSound s =
-    IfOk s.read (λ flat. IsDocument s.document.now (document_in flat) × Fits s.document.now)
+    IfOk s.read (λ flat. HoldsPortion s.plan.now.portion s.document.now flat × Fits s.document.now)
     × IfErr s.read (IsNoDocument s.document.now)
     × IfSome s.place (IsMisreadAt s.document.now)
 

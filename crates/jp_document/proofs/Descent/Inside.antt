@@ -11,12 +11,12 @@ use Rattle.std.proofs.lemmas.List.{drop_more}
 use Rattle.std.specs.Option.{option_and_then}
 use Rattle.jp_document.specs.Location.{Step, step_cmp, Location, items_from}
 use Rattle.jp_document.specs.Location.{members_by_name, child, value_at}
-use Rattle.jp_document.specs.Value.{Value, null, boolean, whole, text, list, object, Items}
+use Rattle.jp_document.specs.Value.{Value, null, boolean, whole, decimal, text, list, object, Items}
 use Rattle.jp_document.specs.Value.{no_items, item, Members, no_members, member}
 use Rattle.jp_document.specs.Value.{items_of, members_of}
 use Rattle.jp_document.specs.Value.{everywhere, everywhere_in_items, everywhere_in_members}
 use Rattle.jp_document.specs.Value.{is_allowed, IsDocumentValue, value_of}
-use Rattle.jp_document.specs.declared.value.Json.{Json, Null, Bool as Truth, Whole, Text}
+use Rattle.jp_document.specs.declared.value.Json.{Json, Null, Bool as Truth, Whole, Decimal, Text}
 use Rattle.jp_document.specs.declared.value.Json.{the_lemmas}
 use Rattle.jp_reading.proofs.Conjunctions.{and-both, and-left, and-right}
 
@@ -64,6 +64,7 @@ mutual
   everywhere-weaker p q follows null all = follows null all
   everywhere-weaker p q follows (boolean b) all = follows (boolean b) all
   everywhere-weaker p q follows (whole z) all = follows (whole z) all
+  everywhere-weaker p q follows (decimal c e) all = follows (decimal c e) all
   everywhere-weaker p q follows (text s) all = follows (text s) all
 
   items-weaker : (p q : Value → Bool) → ((v : Value) → p v ≡ true → q v ≡ true)
@@ -100,13 +101,15 @@ all-members p (m ∷ ms) = ap (λ b. everywhere p m.1 && b) (all-members p ms)
 pub no_child_unless : {X : Type 0} (sort : X → Json) (j : Json) (k : Step)
     → ((x : X) → child (value_of (sort x)) k ≡ None)
     → (j ≡ Null) ⊎ (((b : Bool) × (j ≡ Truth b)) ⊎ (((z : ℤ) × (j ≡ Whole z)) ⊎
-    (((s : String Global) × (j ≡ Text s)) ⊎ ((x : X) × (j ≡ sort x)))))
+    (((e : ℤ) × (c : ℤ) × (j ≡ Decimal e c)) ⊎
+    (((s : String Global) × (j ≡ Text s)) ⊎ ((x : X) × (j ≡ sort x))))))
     → child (value_of j) k ≡ None
 no_child_unless sort j k none (inl e) = rw e (search (rules, the_lemmas))
 no_child_unless sort j k none (inr (inl e)) = rw e.1 (search (rules, the_lemmas))
 no_child_unless sort j k none (inr (inr (inl e))) = rw e.1 (search (rules, the_lemmas))
-no_child_unless sort j k none (inr (inr (inr (inl e)))) = rw e.1 (search (rules, the_lemmas))
-no_child_unless sort j k none (inr (inr (inr (inr e)))) =
+no_child_unless sort j k none (inr (inr (inr (inl e)))) = rw e.2 (search (rules, the_lemmas))
+no_child_unless sort j k none (inr (inr (inr (inr (inl e))))) = rw e.1 (search (rules, the_lemmas))
+no_child_unless sort j k none (inr (inr (inr (inr (inr e))))) =
     ap (λ i. child (value_of i) k) e.1 ∙ none e.0
 
 and_then-Some : (o : Option Value) → option_and_then (λ w. Some w) o ≡ o

@@ -19,7 +19,8 @@ use Rattle.serde_json.specs.Data.{Data, Num, float, negative, put, unsigned}
 use Rattle.serde_json.specs.Read.{float_of, is_integer, number_from}
 use Rattle.serde_json.specs.Read.{number_of, of_items, of_json, of_members}
 use Rattle.jp_document.specs.Document.{IsReading}
-use Rattle.jp_document.specs.Value.{fits_64_bits, names_fit}
+use Rattle.jp_decimal.specs.Number.{is_in_64_bits}
+use Rattle.jp_document.specs.Value.{names_fit}
 use Rattle.jp_document.proofs.Members.ByName.{bytes_cmp}
 use Rattle.jp_reading.proofs.Conjunctions.{and-left, and-right}
 use Rattle.jp_document.proofs.Utf8.Parsed.{items_texts, json_texts, members_texts}
@@ -34,8 +35,8 @@ members_read parsed.no_members = []
 members_read (parsed.member n d ms) = (n, d) ∷ members_read ms
 
 abbrev number_fits : Num → Bool
-number_fits (unsigned n) = fits_64_bits (pos n)
-number_fits (negative z) = fits_64_bits z
+number_fits (unsigned n) = is_in_64_bits (pos n)
+number_fits (negative z) = is_in_64_bits z
 number_fits (float x) = true
 
 abbrev mutual
@@ -86,7 +87,7 @@ fits_then fits more (Some a) k next is = next a (is.each a refl)
 float_fits : (sign : Bool) (p : Parts) → EachFits number_fits (float_of sign p)
 float_fits sign p = fits_if number_fits _ _ None (λ finite. refl) (fits_none number_fits)
 
-below_zero_fits : (n : ℕ) → 0 < n → n ≤ 2 ^ 63 → fits_64_bits (with_sign true n) ≡ true
+below_zero_fits : (n : ℕ) → 0 < n → n ≤ 2 ^ 63 → is_in_64_bits (with_sign true n) ≡ true
 below_zero_fits zero some few = absurd (omega arith)
 below_zero_fits (suc n) some few = lt-ltb n (2 ^ 63) (omega arith)
 
@@ -116,6 +117,9 @@ unfolding number_of
 number_of_fits s =
     either_fits (slice_index s 0 == minus) (number_from true (scan (drop 1 s)))
     (number_from false (scan s)) (from_fits true (scan (drop 1 s))) (from_fits false (scan s))
+
+pub number-fits : (s : List ℕ) (n : Num) → number_of s ≡ Some n → number_fits n ≡ true
+number-fits s n is = (number_of_fits s).each n is
 
 -- ---- members
 

@@ -13,7 +13,7 @@ use Rattle.std.proofs.lemmas.Option.{same_Some}
 use Rattle.jp_document.specs.Location.{Location, Step, child, child_entry, items_from, named, nth, step_cmp}
 use Rattle.jp_document.specs.Node.{Node, node_below, root_of}
 use Rattle.jp_document.specs.Value.{Items, Members, Value, boolean, item, list, member, no_items}
-use Rattle.jp_document.specs.Value.{null, object, text, whole}
+use Rattle.jp_document.specs.Value.{null, object, text, whole, decimal}
 use Rattle.jp_flat.specs.Asked.{AreThinned, IsThinned, LeavesMembers, all, in_list, in_object}
 use Rattle.jp_flat.specs.Asked.{is_leaf, is_name, kept, missing, next_item, no_item, no_member}
 use Rattle.jp_flat.specs.Asked.{thinned}
@@ -64,6 +64,7 @@ found-leaf : (k : List ℕ) (s : Step) (v : Value) (ns : List Node) → is_leaf 
 found-leaf k s null ns leaf = refl
 found-leaf k s (boolean b) ns leaf = refl
 found-leaf k s (whole z) ns leaf = refl
+found-leaf k s (decimal c e) ns leaf = refl
 found-leaf k s (text t) ns leaf = refl
 found-leaf k s (list vs) ns leaf = absurd (cc)
 found-leaf k s (object ms) ns leaf = absurd (cc)

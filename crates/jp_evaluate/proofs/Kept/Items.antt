@@ -13,7 +13,7 @@ use Rattle.jp_document.specs.Location.{Step, child, child_entry, items_from, nam
 use Rattle.jp_document.specs.Location.{step_cmp}
 use Rattle.jp_document.specs.Node.{children, node_below, root_of}
 use Rattle.jp_document.specs.Value.{Items, Value, boolean, item, item_count, list, no_items, null}
-use Rattle.jp_document.specs.Value.{object, text, whole}
+use Rattle.jp_document.specs.Value.{object, text, whole, decimal}
 use Rattle.jp_flat.specs.Asked.{items_with, with_items_of, with_members}
 use Rattle.jp_reading.proofs.Conjunctions.{and-left, and-right}
 use Rattle.jp_select.specs.Selectors.{candidates, indexes_chosen, item_at, item_entry, item_of}
@@ -145,6 +145,7 @@ result-items p (segment_then (segment true ss) rest) d asks = absurd (cc)
 result-items p (segment_then (segment false ss) rest) null asks = refl
 result-items p (segment_then (segment false ss) rest) (boolean b) asks = refl
 result-items p (segment_then (segment false ss) rest) (whole z) asks = refl
+result-items p (segment_then (segment false ss) rest) (decimal c e) asks = refl
 result-items p (segment_then (segment false ss) rest) (text s) asks = refl
 result-items p (segment_then (segment false ss) rest) (object ms) asks = refl
 result-items p (segment_then (segment false ss) rest) (list vs) asks =

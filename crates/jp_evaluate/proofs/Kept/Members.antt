@@ -11,7 +11,7 @@ use Rattle.std.proofs.lemmas.Map.Lookups.{exact_bytes}
 use Rattle.jp_document.specs.Location.{child, named}
 use Rattle.jp_document.specs.Node.{Node, node_at, node_below}
 use Rattle.jp_document.specs.Value.{Members, Value, boolean, list, member, no_members, null}
-use Rattle.jp_document.specs.Value.{object, text, whole}
+use Rattle.jp_document.specs.Value.{object, text, whole, decimal}
 use Rattle.jp_flat.specs.Asked.{is_name, members_named, with_members}
 use Rattle.jp_reading.proofs.Conjunctions.{and-left, and-right}
 use Rattle.jp_tree.specs.Tree.{SegmentTrees, SelectorTrees, filter, index, name, no_segments}
@@ -60,6 +60,7 @@ child-kept p n (object ms) passes = member-kept p n ms passes
 child-kept p n null passes = refl
 child-kept p n (boolean b) passes = refl
 child-kept p n (whole z) passes = refl
+child-kept p n (decimal c e) passes = refl
 child-kept p n (text s) passes = refl
 child-kept p n (list vs) passes = refl
 

@@ -1,17 +1,15 @@
 -- Of the document itself other members may be missing than those that queries, or an expression, ask for.
-use Rattle.std.proofs.Common.{◌≡◌, ℕ, Bool, true, List, [], ◌∷◌, String, Vec, All}
+use Rattle.std.proofs.Common.{◌≡◌, ℕ, Bool, true, List, [], ◌∷◌, String, Vec}
 use Rattle.std.proofs.Common.{ap, inl, inr, sym, ◌∙◌}
 use Rattle.std.specs.declared.alloc.Global.{Global}
-use Rattle.std.proofs.lemmas.List.Elements.{All-cons, All-nil}
 use Rattle.jp_document.specs.Node.{root_of}
 use Rattle.jp_document.specs.Value.{Value}
 use Rattle.jp_flat.specs.Asked.{is_listed, with_members}
 use Rattle.jp_flat.specs.declared.asked.AskedFor.TheVariants.{OfRoot}
-use Rattle.jp_reading.proofs.Conjunctions.{and-left, and-right}
 use Rattle.jp_tree.specs.Tree.{ExprTree, QueryTree, SegmentTrees, query}
 use Rattle.jp_evaluate.specs.Asked.{AsksNoMore, TestsNoMore}
 use Rattle.jp_evaluate.specs.Nodelist.{holds, nodelist, result}
-use Rattle.jp_evaluate.specs.Private.Asks.{AskedOf, asks_each, asks_expr, asks_members, asks_root}
+use Rattle.jp_evaluate.specs.Private.Asks.{AskedOf, asks_expr, asks_members, asks_root}
 use Rattle.jp_evaluate.proofs.Kept.Filters.{holds-thin}
 use Rattle.jp_evaluate.proofs.Kept.Members.{result-members}
 use Rattle.jp_evaluate.proofs.Kept.Queries.{pass-itself}
@@ -39,22 +37,11 @@ root-asks q ns asks = λ d u kept.
       | inr is ↦ ap (nodelist q) is ∙ root-kept (is_listed ns.items) q d asks
     ]
 
-each-asks : (qs : List QueryTree) (ns : Vec (String Global) Global)
-    → asks_each (is_listed ns.items) qs ≡ true → All (λ q. AsksNoMore q (OfRoot ns)) qs
-each-asks [] ns asks = All-nil (λ q. AsksNoMore q (OfRoot ns))
-each-asks (q ∷ qs) ns asks =
-    All-cons (λ q. AsksNoMore q (OfRoot ns)) q qs (root-asks q ns (and-left _ _ asks))
-    (each-asks qs ns (and-right _ _ asks))
-
 -- ---- by the names that were told
 
 pub query-asks-root : (q : QueryTree) (ns : Vec (String Global) Global)
     → AskedOf ns.items (λ p. asks_root p q) → AsksNoMore q (OfRoot ns)
 query-asks-root q ns asked = root-asks q ns (asked (is_listed ns.items) (pass-itself ns.items))
-
-pub queries-ask-root : (qs : List QueryTree) (ns : Vec (String Global) Global)
-    → AskedOf ns.items (λ p. asks_each p qs) → All (λ q. AsksNoMore q (OfRoot ns)) qs
-queries-ask-root qs ns asked = each-asks qs ns (asked (is_listed ns.items) (pass-itself ns.items))
 
 pub test-asks-root : (e : ExprTree) (ns : Vec (String Global) Global)
     → AskedOf ns.items (λ p. asks_expr p e) → TestsNoMore e (OfRoot ns)

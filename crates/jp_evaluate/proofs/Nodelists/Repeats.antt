@@ -12,7 +12,7 @@ use Rattle.jp_document.specs.Location.{location_cmp}
 use Rattle.jp_document.specs.Node.{Node}
 use Rattle.jp_document.proofs.Descent.Steps.{step_cmp_total}
 use Rattle.jp_evaluate.specs.Functions.{is_same_node, without_repeats}
-use Rattle.jp_evaluate.specs.Laws.{AreApart, DistinctIsExact, is_there}
+use Rattle.jp_evaluate.specs.NodelistLaws.{AreApart, DistinctIsExact, is_there}
 
 -- ---- nodes at one location
 

@@ -7,7 +7,7 @@ use Rattle.std.proofs.lemmas.List.Elements.{All-head, All-tail}
 use Rattle.jp_document.specs.Node.{Node}
 use Rattle.jp_document.specs.Value.{Value}
 use Rattle.jp_tree.specs.Tree.{SegmentTrees}
-use Rattle.jp_evaluate.specs.Laws.{CountsAddUp, ExistenceGoesBySets}
+use Rattle.jp_evaluate.specs.NodelistLaws.{CountsAddUp, ExistenceGoesBySets}
 use Rattle.jp_evaluate.specs.Nodelist.{has_node, result}
 use Rattle.jp_evaluate.specs.Private.Walk.{reaches}
 use Rattle.jp_evaluate.proofs.Nodelists.Joined.{result-each}

@@ -18,7 +18,7 @@ use Rattle.jp_check.specs.declared.profile.Profile.TheVariants.{Extended}
 use Rattle.jp_tree.specs.declared.function.Function.{Function}
 use Rattle.jp_evaluate.specs.Functions.{Meaning, meaning, only_value, value_answer, value_of_nodes}
 use Rattle.jp_evaluate.specs.Functions.{value_of_value}
-use Rattle.jp_evaluate.specs.Laws.{NamesRiseInSides}
+use Rattle.jp_evaluate.specs.NodelistLaws.{NamesRiseInSides}
 use Rattle.jp_evaluate.specs.Nodelist.{argument_nodes, argument_value, call_answer, literal_value}
 use Rattle.jp_evaluate.specs.Nodelist.{nodelist_at, single_node_value}
 use Rattle.jp_evaluate.proofs.Nodelists.Meanings.{IsLawful, Rises, RisesAt, is_lawful, rises-none}

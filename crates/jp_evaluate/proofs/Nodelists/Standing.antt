@@ -20,7 +20,8 @@ use Rattle.jp_select.proofs.Choosing.Nodes.{candidates_below, choosing_law}
 use Rattle.jp_select.proofs.Locations.{subtree-stands}
 use Rattle.jp_select.specs.Selectors.{single}
 use Rattle.jp_select.specs.Subtree.{subtree_of}
-use Rattle.jp_evaluate.specs.Laws.{SelectsNodesAlone, SingularSelectsOne}
+use Rattle.jp_evaluate.specs.Laws.{SelectsNodesAlone}
+use Rattle.jp_evaluate.specs.NodelistLaws.{SingularSelectsOne}
 use Rattle.jp_evaluate.specs.Nodelist.{holds, result, segment_result, selected, selection, start_of}
 use Rattle.jp_evaluate.specs.Nodelist.{visited}
 use Rattle.jp_check.specs.Functions.{function_named}

@@ -15,7 +15,7 @@ use Rattle.jp_evaluate.specs.Functions.{Meaning, meaning, nodes_answer, value_an
 use Rattle.jp_evaluate.specs.Functions.{value_of_nodes, without_repeats}
 use Rattle.jp_evaluate.specs.Private.Meanings.{kind_of, made_of_nodes}
 use Rattle.jp_evaluate.specs.declared.kind.Kind.TheVariants.{ValueOfNodes}
-use Rattle.jp_evaluate.specs.Laws.{StandardCalls}
+use Rattle.jp_evaluate.specs.NodelistLaws.{StandardCalls}
 use Rattle.jp_evaluate.specs.Nodelist.{argument_nodes, argument_value, call_answer, call_holds}
 use Rattle.jp_evaluate.specs.Nodelist.{call_nodes, has_node, holds, meaning_named, nodelist_at}
 use Rattle.jp_evaluate.specs.Nodelist.{some_node}

@@ -16,7 +16,7 @@ use Rattle.jp_document.proofs.Members.TextNames.{IsUtf8-child_named}
 use Rattle.jp_document.specs.Location.{Step, Location, child, child_entry, named, nth, value_at}
 use Rattle.jp_document.specs.Node.{Node, node_at, node_below}
 use Rattle.jp_document.specs.Value.{IsDocumentValue, Items, Value, boolean, item_count}
-use Rattle.jp_document.specs.Value.{list, null, object, text, whole}
+use Rattle.jp_document.specs.Value.{list, null, object, text, whole, decimal}
 use Rattle.jp_query.specs.Components.{segments_components}
 use Rattle.jp_tree.specs.Tree.{segments}
 use Rattle.jp_check.specs.declared.profile.Profile.{Profile}
@@ -68,6 +68,7 @@ step_result d (object ms) u l (nth i) there small =
 step_result d null u l (nth i) there small = absurd (cc)
 step_result d (boolean b) u l (nth i) there small = absurd (cc)
 step_result d (whole z) u l (nth i) there small = absurd (cc)
+step_result d (decimal c e) u l (nth i) there small = absurd (cc)
 step_result d (text s) u l (nth i) there small = absurd (cc)
 
 -- the rest of a location selects what stands at its end
@@ -91,6 +92,7 @@ index_fits (object ms) u i document there = absurd (let none = child-object_nth 
 index_fits null u i document there = absurd (cc)
 index_fits (boolean b) u i document there = absurd (cc)
 index_fits (whole z) u i document there = absurd (cc)
+index_fits (decimal c e) u i document there = absurd (cc)
 index_fits (text s) u i document there = absurd (cc)
 
 step_fits : (v u : Value) (k : Step) → IsDocumentValue v → child v k ≡ Some u → StepFits k

@@ -11,7 +11,7 @@ use Rattle.jp_document.proofs.Members.ByName.{child-object_nth}
 use Rattle.jp_document.specs.Location.{Step, Location, child, child_entry, named, nth, value_at}
 use Rattle.jp_document.specs.Node.{Node, child_of, node_at, node_below, root_of}
 use Rattle.jp_document.specs.Value.{Items, Value, boolean, item_count, list, list_length, null}
-use Rattle.jp_document.specs.Value.{object, text, whole}
+use Rattle.jp_document.specs.Value.{object, text, whole, decimal}
 use Rattle.jp_tree.proofs.Views.{query_of-is}
 use Rattle.jp_tree.specs.Tree.{QueryTree, SegmentTree, SegmentTrees, SelectorTree, filter, index}
 use Rattle.jp_tree.specs.Tree.{name, no_segments, no_selectors, query, segment, segment_then}
@@ -64,6 +64,7 @@ index_item (object ms) i = sym (ap (option_map (λ w. (nth i, w))) (child-object
 index_item null i = refl
 index_item (boolean b) i = refl
 index_item (whole z) i = refl
+index_item (decimal c e) i = refl
 index_item (text s) i = refl
 
 index-names : (i : ℕ) → SelectorNames (index (Whole (pos i))) (nth i)

@@ -112,11 +112,6 @@ asks_items p _ = false
 abbrev pub asks_root : (List ℕ → Bool) → QueryTree → Bool
 asks_root p (query absolute all) = asks_members p all
 
--- the same of each query
-abbrev pub asks_each : (List ℕ → Bool) → List QueryTree → Bool
-asks_each p [] = true
-asks_each p (q ∷ qs) = asks_root p q && asks_each p qs
-
 -- the name that is the only selector
 abbrev pub only_name : SelectorTrees → Option (List ℕ)
 only_name (selector_then s no_selectors) = name_selected s

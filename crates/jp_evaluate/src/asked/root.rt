@@ -1,9 +1,10 @@
 //! The members that queries, and the expression of a filter, ask for of the document itself.
 
-ghost use Rattle.std.specs.Prelude.{All, IfOk, IfSome, map};
+ghost use Rattle.std.specs.Prelude.{IfOk, IfSome};
+ghost use Rattle.jp_tree.specs.Tree.{QueryTree};
 ghost use Rattle.jp_tree.specs.Views.{expr_of, query_of};
 ghost use Rattle.jp_evaluate.specs.Asked.{AsksNoMore, TestsNoMore};
-ghost use Rattle.jp_evaluate.specs.Private.Asks.{AskedOf, Collects, asks_each, asks_expr, asks_root};
+ghost use Rattle.jp_evaluate.specs.Private.Asks.{AskedOf, Collects, asks_expr, asks_root, pass};
 
 use crate::asked::filters::push_expr;
 use crate::asked::members::push_members;
@@ -12,17 +13,18 @@ use jp_flat::AskedFor;
 use jp_tree::Expr;
 use std::alloc::{AllocError, Global};
 
-/// What several queries together ask of a document: over each document each of them selects the same
-/// nodes in what is kept of it. None where one of them is not told to ask only for members of the
-/// document itself. The only error is that memory ran out.
-pub(crate) fn asked_by_all(
-    alloc: Global,
-    queries: &[Checked],
-) -> Result<Option<AskedFor>, AllocError>
-    ensures { IfOk result (λ o. IfSome o
-        (λ asked. All (λ q. AsksNoMore q asked) (map (λ c. query_of c.query) queries.now))) }
+/// What a query asks of a document together with others, which ask for so much: over each document each
+/// of them selects the same nodes in what is kept of it. None where one of them is not told to ask only
+/// for members of the document itself. The only error is that memory ran out.
+pub(crate) fn asked_beside(asked: AskedFor, query: &Checked) -> Result<Option<AskedFor>, AllocError>
+    ensures asks { IfOk result (λ o. IfSome o (AsksNoMore (query_of query.now.query))) }
+    ensures others { IfOk result (λ o. IfSome o
+        (λ all. (q : QueryTree) → AsksNoMore q asked → AsksNoMore q all)) }
 {
-    match names_of_each(alloc, queries)? {
+    let AskedFor::OfRoot(names) = asked else {
+        return Ok(None);
+    };
+    match names_beside(names, query)? {
         Some(names) => Ok(Some(AskedFor::OfRoot(names))),
         None => Ok(None),
     }
@@ -43,15 +45,15 @@ pub(crate) fn asked_by_test(
     }
 }
 
-/// The names of all members that a query asks for of the document itself, None where it is not told.
-pub(crate) fn names_of_root(
-    alloc: Global,
-    query: &Checked,
-) -> Result<Option<Vec<String>>, AllocError>
-    ensures { IfOk result (λ o. IfSome o
-        (λ names. AskedOf names.items (λ p. asks_root p (query_of query.now.query)))) }
+/// These names and those of all members that a query asks for of the document itself, None where that is
+/// not told.
+fn names_beside(names: Vec<String>, query: &Checked) -> Result<Option<Vec<String>>, AllocError>
+    ensures asked { IfOk result (λ o. IfSome o
+        (λ all. AskedOf all.items (λ p. asks_root p (query_of query.now.query)))) }
+    ensures others { IfOk result (λ o. IfSome o
+        (λ all. AskedOf all.items (λ p. pass p names.items))) }
 {
-    let mut names = Vec::new(alloc);
+    let mut names = names;
     if push_root(query, &mut names)? {
         Ok(Some(names))
     } else {
@@ -70,31 +72,6 @@ fn names_of_test(alloc: Global, test: &Expr) -> Result<Option<Vec<String>>, Allo
     } else {
         Ok(None)
     }
-}
-
-/// The names of all members that the queries ask for, None where it is not told.
-fn names_of_each(alloc: Global, queries: &[Checked]) -> Result<Option<Vec<String>>, AllocError>
-    ensures { IfOk result (λ o. IfSome o (λ names. AskedOf names.items
-        (λ p. asks_each p (map (λ c. query_of c.query) queries.now)))) }
-{
-    let mut names = Vec::new(alloc);
-    if push_each(queries, &mut names)? {
-        Ok(Some(names))
-    } else {
-        Ok(None)
-    }
-}
-
-fn push_each(queries: &[Checked], names: &mut Vec<String>) -> Result<bool, AllocError>
-    ensures { IfOk result (Collects names.old.items names.new.items
-        (λ p. asks_each p (map (λ c. query_of c.query) queries.now))) }
-{
-    for query in queries {
-        if !push_root(query, names)? {
-            return Ok(false);
-        }
-    }
-    Ok(true)
 }
 
 fn push_root(query: &Checked, names: &mut Vec<String>) -> Result<bool, AllocError>

@@ -254,7 +254,7 @@ fn nodes_once(call: &Call) -> Option<NodesQuery<'_>>
 }
 
 /// Whether the query gives the same at each value and names no location.
-pub(super) fn is_asked_once(query: &Query) -> bool
+fn is_asked_once(query: &Query) -> bool
     ensures { result ≡ is_asked_once (query_of query.now) }
 {
     query.absolute && !names_steps(query)

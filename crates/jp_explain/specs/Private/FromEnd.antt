@@ -5,7 +5,7 @@ use Rattle.std.specs.List.{list_any}
 use Rattle.jp_reading.specs.Forms.{AllPassing}
 use Rattle.jp_reading.specs.Texts.{Text, is_among}
 use Rattle.jp_explain.specs.declared.class.Class.TheVariants.{Blank, Digit}
-use Rattle.jp_explain.specs.Classes.{holds}
+use Rattle.jp_explain.specs.Private.Classes.{holds}
 
 -- a text with a minus, digits behind it, perhaps after blanks, and a parenthesis that closes; the text is
 -- the front, a minus, those digits, and what comes after the parenthesis

@@ -4,10 +4,10 @@ ghost use Rattle.std.specs.Prelude.{◌≡◌, ◌++◌, ◌⊎◌, [], true, fa
 ghost use Rattle.std.specs.List.{list_any, prefix_len};
 ghost use Rattle.jp_reading.specs.Texts.{is_among};
 ghost use Rattle.jp_explain.specs.declared.class.Class.TheVariants.{Blank};
-ghost use Rattle.jp_explain.specs.Classes.{holds};
-ghost use Rattle.jp_explain.specs.Marks.{begins_in};
+ghost use Rattle.jp_explain.specs.Private.Classes.{holds};
+ghost use Rattle.jp_explain.specs.Private.Marks.{begins_in};
 
-use crate::class::{Class, split_prefix};
+use crate::class::{Class, prefix_len, split_prefix};
 use crate::marks::{ends, is_among, stem, without_last};
 
 /// The text cut before that character, or at its end.
@@ -75,6 +75,29 @@ pub(super) fn cut_call(text: &[char]) -> (&[char], &[char]) {
         }
     }
     text.split_at(passed.min(text.len()))
+}
+
+/// The text cut after the literal that it begins with, a text between quotation marks without escapes, a
+/// number or a word; nothing is before the cut where there is none.
+pub(super) fn cut_literal(text: &[char]) -> (&[char], &[char]) {
+    let size = match text {
+        ['"', inner @ ..] => quoted_size(inner, "\""),
+        ['\'', inner @ ..] => quoted_size(inner, "'"),
+        ['-', number @ ..] => prefix_len(number, Class::Name).saturating_add(1),
+        _ => prefix_len(text, Class::Name),
+    };
+    text.split_at(size.min(text.len()))
+}
+
+/// How many characters a text between these marks takes, of which this is what comes after the first mark;
+/// 0 where the other one is missing, or an escape stands in it.
+fn quoted_size(inner: &[char], mark: &str) -> usize {
+    let (body, end) = cut_at(inner, mark);
+    if end.is_empty() || has(body, "\\") {
+        0
+    } else {
+        body.len().saturating_add(2)
+    }
 }
 
 /// The text without the blanks that it begins with.

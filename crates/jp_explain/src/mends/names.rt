@@ -1,11 +1,11 @@
 //! Mends of dots, brackets and names after dots.
 
 use super::Piece::{Kept, New};
-use super::cuts::{before_bracket, cut_at, cut_name};
+use super::cuts::{before_bracket, cut_at, cut_name, past_name};
 use super::{Cut, Mended, joined, spliced};
 use crate::class::{Class, split_prefix, split_suffix};
 use crate::marks::{
-    begins, begins_as, begins_in, ends, ends_in, stem, without_first, without_last,
+    begins, begins_in, ends, ends_in, is, name_at, stem, without_first, without_last,
 };
 use crate::reason::Reason;
 use std::alloc::Global;
@@ -20,6 +20,9 @@ pub(super) fn mended(alloc: Global, reason: Reason, cut: Cut<'_>) -> Mended {
         Reason::DotQuote => dot_quote(alloc, cut),
         Reason::DotDigit => digits(alloc, cut),
         Reason::OddName => odd_name(alloc, cut),
+        Reason::OwnName if is(name_at(rest), "root") => {
+            spliced(alloc, without_last(front), "$", past_name(rest))
+        }
         Reason::MissingDot => spliced(alloc, front, ".", rest),
         Reason::NextSegment if ends_in(front, "$]") && begins(rest, "*") => {
             spliced(alloc, front, ".", rest)
@@ -55,20 +58,10 @@ fn dot_quote(alloc: Global, Cut { front, rest }: Cut<'_>) -> Mended {
     joined(alloc, &parts)
 }
 
-/// An index after a dot, or a name that begins with a digit.
+/// A name that begins with a digit, after a dot.
 fn digits(alloc: Global, Cut { front, rest }: Cut<'_>) -> Mended {
-    let kept = before_bracket(front);
-    let (digits, after) = split_prefix(rest, Class::Digit);
-    if begins_as(after, Class::NameFirst) {
-        bracketed(alloc, kept, &[], "", split_prefix(rest, Class::Name))
-    } else if digits.len() > 1 && begins_in(digits, "0") {
-        Ok(None)
-    } else {
-        joined(
-            alloc,
-            &[Kept(kept), New("["), Kept(digits), New("]"), Kept(after)],
-        )
-    }
+    let named = split_prefix(rest, Class::Name);
+    bracketed(alloc, before_bracket(front), &[], "", named)
 }
 
 /// A name in which signs stand that XML, JSON-LD and others have in names.

@@ -1,15 +1,23 @@
 //! Mends of numbers.
 
 use super::Piece::Kept;
-use super::{Cut, Mended, joined};
+use super::{Cut, Mended, joined, spliced};
 use crate::class::{Class, split_prefix};
-use crate::marks::{begins, begins_as, begins_in, without_first, without_last};
+use crate::marks::{begins, begins_as, begins_in, ends, without_first, without_last, without_name};
 use crate::reason::Reason;
 use std::alloc::Global;
 
 pub(super) fn mended(alloc: Global, reason: Reason, cut: Cut<'_>) -> Mended {
     let Cut { front, rest } = cut;
     match reason {
+        Reason::Thousands => {
+            let kept = without_last(without_last(front));
+            if ends(without_name(kept), ",") {
+                Ok(None)
+            } else {
+                spliced(alloc, kept, "0", rest)
+            }
+        }
         Reason::LeadingZero | Reason::MinusZero => {
             joined(alloc, &[Kept(without_last(front)), Kept(rest)])
         }

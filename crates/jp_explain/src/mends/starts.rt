@@ -1,7 +1,7 @@
 //! Mends at the start of a query, and of slashes.
 
 use super::Piece::{Kept, New};
-use super::cuts::has;
+use super::cuts::{before_bracket, cut_at, has};
 use super::{Cut, Mended, joined, spliced};
 use crate::class::{Class, split_prefix};
 use crate::marks::{begins, begins_as, ends, is, without_first, without_last};
@@ -15,7 +15,9 @@ pub(super) fn mended(alloc: Global, reason: Reason, cut: Cut<'_>) -> Mended {
         Reason::BlankFirst => joined(alloc, &[Kept(split_prefix(rest, Class::Unseen).1)]),
         Reason::ShellNumber => number(alloc, rest),
         Reason::ShellDot => dot(alloc, rest),
-        Reason::CurrentNode => joined(alloc, &[New("$"), Kept(without_first(rest))]),
+        Reason::CurrentNode if !begins_as(without_first(rest), Class::Name) => {
+            joined(alloc, &[New("$"), Kept(without_first(rest))])
+        }
         Reason::Braces => joined(alloc, &[Kept(without_braces(rest))]),
         Reason::Quoted => without_quotes(alloc, rest),
         Reason::Slash => slash(alloc, cut),
@@ -61,10 +63,23 @@ fn without_quotes(alloc: Global, text: &[char]) -> Mended {
     }
 }
 
-/// A slash is a dot, and two are two. What brackets and parents are in XPath is another thing.
+/// A slash is a dot, and two are two, and digits after one are an index, as in JSON Pointer (RFC 6901). After
+/// a name and a dot it begins a name, as that of a path in OpenAPI. What brackets and parents are in XPath
+/// is another thing.
 fn slash(alloc: Global, Cut { front, rest }: Cut<'_>) -> Mended {
+    if ends(front, ".") && !is(front, "$.") && !begins(rest, "//") {
+        return path_name(alloc, front, rest);
+    }
     if has(front, "[") || has(rest, "[") || ends(front, "..") {
         return Ok(None);
+    }
+    let (digits, behind) = split_prefix(without_first(rest), Class::Digit);
+    let is_index = digits.len() > 0 && (behind.is_empty() || begins(behind, "/"));
+    if is_index && !front.is_empty() {
+        return joined(
+            alloc,
+            &[Kept(front), New("["), Kept(digits), New("]"), Kept(behind)],
+        );
     }
     let (dots, after) = if begins(rest, "//") {
         ("..", without_first(without_first(rest)))
@@ -78,4 +93,20 @@ fn slash(alloc: Global, Cut { front, rest }: Cut<'_>) -> Mended {
     } else {
         spliced(alloc, front, dots, after)
     }
+}
+
+/// A name that begins with a slash, in quotes and brackets.
+fn path_name<'t>(alloc: Global, front: &'t [char], rest: &'t [char]) -> Mended {
+    let (name, after) = cut_at(rest, ".[ ");
+    if has(name, "'\"\\") {
+        return Ok(None);
+    }
+    let parts = [
+        Kept(before_bracket(front)),
+        New("[\""),
+        Kept(name),
+        New("\"]"),
+        Kept(after),
+    ];
+    joined(alloc, &parts)
 }

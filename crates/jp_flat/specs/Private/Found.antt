@@ -5,12 +5,14 @@ use Rattle.std.specs.Borrow.{Bor}
 use Rattle.std.specs.Ordering.{is_eq}
 use Rattle.json.specs.Token.{Token}
 use Rattle.jp_document.specs.Location.{Location, Step, named, owned_step, step_cmp, value_at}
-use Rattle.jp_flat.specs.Private.Integer.{whole_number}
+use Rattle.jp_document.specs.NumberTexts.{numbers_of}
 use Rattle.jp_flat.specs.Private.FromTokens.{ReadsItems, ReadsMembers, ReadsText, ReadsValue}
 use Rattle.jp_document.specs.Value.{Value, everywhere, everywhere_in_items, everywhere_in_members}
-use Rattle.jp_document.specs.Value.{items_of, list, list_fits, members_of, object}
+use Rattle.jp_document.specs.Value.{items_of, list, members_of, object}
+use Rattle.jp_flat.specs.Private.Bounded.{is_bounded}
 use Rattle.jp_document.specs.declared.location.OwnedStep as code
-use Rattle.jp_flat.specs.Flat.{Shown, flat_value, most_levels}
+use Rattle.jp_flat.specs.Flat.{Shown, flat_value}
+use Rattle.jp_document.specs.OfJson.{most_levels}
 use Rattle.jp_flat.specs.Private.Tokens.{said}
 use Rattle.jp_flat.specs.declared.finding.Sought.{Sought}
 use Rattle.jp_flat.specs.declared.item.Item.{Item}
@@ -56,33 +58,33 @@ IsFoundAs n t o (Some i) = (v : Value) × (o ≡ Some v) × (flat_value n t i �
 pub record FindsAt (depth : ℕ) (ts rest : List Token) (t : Shown) (l : Option Location)
     (i : Option Item) : Type 0 where
   pub value : Value
-  pub reads : ReadsValue whole_number depth ts rest value
-  pub short : everywhere list_fits value ≡ true
+  pub reads : ReadsValue (numbers_of t.exact) depth ts rest value
+  pub short : everywhere is_bounded value ≡ true
   pub found : IsFoundAs depth t (value_sought l value) i
 
 -- the same of the items of a list
 pub record FindsItem (depth : ℕ) (ts rest : List Token) (t : Shown) (l : Option Location)
     (i : Option Item) : Type 0 where
   pub values : List Value
-  pub reads : ReadsItems whole_number depth (length ts) ts rest (items_of values)
-  pub within : everywhere_in_items list_fits (items_of values) ≡ true
-  pub short : list_fits (list (items_of values)) ≡ true
+  pub reads : ReadsItems (numbers_of t.exact) depth (length ts) ts rest (items_of values)
+  pub within : everywhere_in_items is_bounded (items_of values) ≡ true
+  pub short : is_bounded (list (items_of values)) ≡ true
   pub found : IsFoundAs depth t (value_sought l (list (items_of values))) i
 
 -- the same of the members of an object
 pub record FindsMember (depth : ℕ) (ts rest : List Token) (t : Shown) (l : Option Location)
     (i : Option Item) : Type 0 where
   pub members : List (List ℕ × Value)
-  pub reads : ReadsMembers whole_number depth (length ts) ts rest members
-  pub within : everywhere_in_members list_fits (members_of members) ≡ true
+  pub reads : ReadsMembers (numbers_of t.exact) depth (length ts) ts rest members
+  pub within : everywhere_in_members is_bounded (members_of members) ≡ true
   pub found : IsFoundAs depth t (value_sought l (object (members_of members))) i
 
 -- the same of a whole text
 pub record FindsInText (source : List ℕ) (t : Shown) (l : Location) (i : Option Item) : Type 0
   where
     pub value : Value
-    pub reads : ReadsText whole_number source value
-    pub short : everywhere list_fits value ≡ true
+    pub reads : ReadsText (numbers_of t.exact) source value
+    pub short : everywhere is_bounded value ≡ true
     pub found : IsFoundAs most_levels t (value_at value l) i
 
 -- the tokens begin with a value, and the rest follows; nothing is sought in it, whatever the tables

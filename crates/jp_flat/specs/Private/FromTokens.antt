@@ -2,19 +2,13 @@
 use Rattle.std.specs.Prelude.{◌≡◌, ℕ, List, [], Option, Some, option_map, option_and_then}
 use Rattle.json.specs.Token.{Token}
 use Rattle.json.specs.Json as json
-use Rattle.json.specs.Lex.{tokens}
 use Rattle.jp_document.specs.Value.{Value, Items}
-use Rattle.jp_flat.specs.Flat.{most_levels}
-use Rattle.jp_flat.specs.OfJson.{value_of_json, items_of_json, members_of_json}
+use Rattle.jp_document.specs.OfJson.{value_of_json, items_of_json, members_of_json, json_in}
 
 -- what was read, under f
 abbrev pub converted : {A B : Type 0} → (A → Option B) → Option (A × List Token)
     → Option (B × List Token)
 converted f read = option_and_then (λ p. option_map (λ b. (b, p.1)) (f p.0)) read
-
--- what the grammar reads a whole text as, nested no deeper than a document
-abbrev pub json_in : List ℕ → Option json.Json
-json_in text = option_and_then (λ p. json.if_last p.0 p.1) (json.value most_levels (tokens text))
 
 module _ (numbers : List ℕ → Option Value) where
   -- the text has the value v

@@ -4,10 +4,12 @@ use Rattle.std.specs.Prelude.{IfSome, Some, String, drop, length}
 use Rattle.std.specs.declared.alloc.Global.{Global}
 use Rattle.json.specs.Token.{Token}
 use Rattle.jp_document.specs.Value.{Value, everywhere, everywhere_in_items, everywhere_in_members}
-use Rattle.jp_document.specs.Value.{items_of, list, list_fits, members_of, object}
+use Rattle.jp_document.specs.Value.{items_of, list, members_of, object}
+use Rattle.jp_flat.specs.Private.Bounded.{is_bounded}
 use Rattle.jp_flat.specs.Asked.{IsKept, IsThinned, is_listed, is_leaf, is_name}
-use Rattle.jp_flat.specs.Flat.{Shown, flat_value, most_levels}
-use Rattle.jp_flat.specs.Private.Integer.{whole_number}
+use Rattle.jp_flat.specs.Flat.{Shown, flat_value}
+use Rattle.jp_document.specs.OfJson.{most_levels}
+use Rattle.jp_document.specs.NumberTexts.{numbers_of}
 use Rattle.jp_flat.specs.Private.FromTokens.{ReadsItems, ReadsMembers, ReadsText, ReadsValue}
 use Rattle.jp_flat.specs.Private.Reading.{IsAboveLast}
 use Rattle.jp_flat.specs.Private.Tokens.{HasSpan, said}
@@ -23,8 +25,8 @@ module _ (Keeps : Value → Value → Type 0) where
   pub record KeepsFlat (depth : ℕ) (ts rest : List Token) (t : Shown) (i : Item) : Type 0 where
     pub value : Value
     pub kept : Value
-    pub reads : ReadsValue whole_number depth ts rest value
-    pub short : everywhere list_fits value ≡ true
+    pub reads : ReadsValue (numbers_of t.exact) depth ts rest value
+    pub short : everywhere is_bounded value ≡ true
     pub keeps : Keeps value kept
     pub means : flat_value depth t i ≡ Some kept
 
@@ -33,9 +35,9 @@ module _ (Keeps : Value → Value → Type 0) where
     where
       pub values : List Value
       pub kept : Value
-      pub reads : ReadsItems whole_number depth (length ts) ts rest (items_of values)
-      pub within : everywhere_in_items list_fits (items_of values) ≡ true
-      pub short : list_fits (list (items_of values)) ≡ true
+      pub reads : ReadsItems (numbers_of t.exact) depth (length ts) ts rest (items_of values)
+      pub within : everywhere_in_items is_bounded (items_of values) ≡ true
+      pub short : is_bounded (list (items_of values)) ≡ true
       pub keeps : Keeps (list (items_of values)) kept
       pub means : flat_value (suc depth) t i ≡ Some kept
 
@@ -44,8 +46,8 @@ module _ (Keeps : Value → Value → Type 0) where
     where
       pub members : List (List ℕ × Value)
       pub kept : Value
-      pub reads : ReadsMembers whole_number depth (length ts) ts rest members
-      pub within : everywhere_in_members list_fits (members_of members) ≡ true
+      pub reads : ReadsMembers (numbers_of t.exact) depth (length ts) ts rest members
+      pub within : everywhere_in_members is_bounded (members_of members) ≡ true
       pub keeps : Keeps (object (members_of members)) kept
       pub means : flat_value (suc depth) t i ≡ Some kept
 
@@ -53,8 +55,8 @@ module _ (Keeps : Value → Value → Type 0) where
 pub record KeepsFlatText (asked : AskedFor) (source : List ℕ) (t : Shown) (i : Item) : Type 0 where
   pub value : Value
   pub kept : Value
-  pub reads : ReadsText whole_number source value
-  pub short : everywhere list_fits value ≡ true
+  pub reads : ReadsText (numbers_of t.exact) source value
+  pub short : everywhere is_bounded value ≡ true
   pub keeps : IsKept asked value kept
   pub means : flat_value most_levels t i ≡ Some kept
 

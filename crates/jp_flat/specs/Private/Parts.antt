@@ -4,6 +4,9 @@ use Rattle.std.specs.Prelude.{get_or, length, option_and_then, unwrap_or}
 use Rattle.std.specs.Cmp.Lexicographic.{slice_cmp}
 use Rattle.std.specs.List.{slice_get}
 use Rattle.std.specs.Ordering.{is_eq, nat_cmp}
+use Rattle.jp_decimal.specs.NormalForm.{normal_form}
+use Rattle.jp_decimal.specs.TextValue.{value_of_text}
+use Rattle.jp_decimal.specs.declared.number.Number.{Number}
 use Rattle.jp_flat.specs.Flat.{Shown, piece, text_at}
 use Rattle.jp_flat.specs.declared.item.Item.{Item}
 use Rattle.jp_flat.specs.declared.item.Named.{Named}
@@ -35,6 +38,10 @@ pub record HoldsText (t : Shown) (s : Span) : Type 0 where
   pub text : List ℕ
   pub at : text_at t s ≡ Some text
   pub utf8 : IsUtf8 text
+
+-- the number that the characters at the span write, None where there are none or it can't be held
+abbrev pub numeral_at : Shown → Span → Option Number
+numeral_at t s = option_and_then (λ x. normal_form (value_of_text x)) (text_at t s)
 
 -- all that stands at a span of items
 abbrev pub items_at : Shown → Span → List Item

@@ -1,16 +1,19 @@
 -- What the tokens of a document are read as, value by value.
-use Rattle.std.specs.Prelude.{◌≡◌, ◌≤◌, ℕ, ℤ, suc, true, List, [], ◌∷◌, ◌++◌, length, Some}
+use Rattle.std.specs.Prelude.{◌≡◌, ◌≤◌, ℕ, ℤ, suc, true, List, [], ◌∷◌, ◌++◌, length, Option, Some}
 use Rattle.std.specs.BTreeMap.{insert_entry}
 use Rattle.std.specs.Cmp.Lexicographic.{slice_cmp}
 use Rattle.std.specs.Ordering.{is_lt, nat_cmp}
 use Rattle.json.specs.Token.{Token}
 use Rattle.jp_document.specs.Location.{entries}
-use Rattle.jp_flat.specs.Private.Integer.{IsWholeText, whole_number}
+use Rattle.jp_document.specs.NumberTexts.{numbers_of}
+use Rattle.jp_flat.specs.Private.Integer.{IsWholeText}
 use Rattle.jp_flat.specs.Private.FromTokens.{ReadsItems, ReadsMembers, ReadsText}
 use Rattle.jp_flat.specs.Private.FromTokens.{ReadsValue}
 use Rattle.jp_document.specs.Value.{Value, everywhere, everywhere_in_items, everywhere_in_members}
-use Rattle.jp_document.specs.Value.{items_of, list, list_fits, members_of, object, whole}
-use Rattle.jp_flat.specs.Flat.{Grows, Shown, all_of, flat_value, member_with, most_levels}
+use Rattle.jp_document.specs.Value.{items_of, list, members_of, object, whole}
+use Rattle.jp_flat.specs.Private.Bounded.{is_bounded}
+use Rattle.jp_flat.specs.Flat.{Grows, Shown, all_of, flat_value, member_with}
+use Rattle.jp_document.specs.OfJson.{most_levels}
 use Rattle.jp_flat.specs.Flat.{text_at}
 use Rattle.jp_flat.specs.declared.item.Item.{Item}
 use Rattle.jp_flat.specs.declared.item.Named.{Named}
@@ -19,41 +22,42 @@ use Rattle.jp_flat.specs.declared.item.Named.{Named}
 -- follows
 pub record ReadsFlat (depth : ℕ) (ts rest : List Token) (t : Shown) (i : Item) : Type 0 where
   pub value : Value
-  pub reads : ReadsValue whole_number depth ts rest value
-  pub short : everywhere list_fits value ≡ true
+  pub reads : ReadsValue (numbers_of t.exact) depth ts rest value
+  pub short : everywhere is_bounded value ≡ true
   pub means : flat_value depth t i ≡ Some value
 
 -- the same of the items of a list, of which the item is made
 pub record ReadsFlatItems (depth : ℕ) (ts rest : List Token) (t : Shown) (i : Item) : Type 0 where
   pub values : List Value
-  pub reads : ReadsItems whole_number depth (length ts) ts rest (items_of values)
-  pub within : everywhere_in_items list_fits (items_of values) ≡ true
-  pub short : list_fits (list (items_of values)) ≡ true
+  pub reads : ReadsItems (numbers_of t.exact) depth (length ts) ts rest (items_of values)
+  pub within : everywhere_in_items is_bounded (items_of values) ≡ true
+  pub short : is_bounded (list (items_of values)) ≡ true
   pub means : flat_value (suc depth) t i ≡ Some (list (items_of values))
 
 -- the same of the members of an object
 pub record ReadsFlatMembers (depth : ℕ) (ts rest : List Token) (t : Shown) (i : Item) : Type 0
   where
     pub members : List (List ℕ × Value)
-    pub reads : ReadsMembers whole_number depth (length ts) ts rest members
-    pub within : everywhere_in_members list_fits (members_of members) ≡ true
+    pub reads : ReadsMembers (numbers_of t.exact) depth (length ts) ts rest members
+    pub within : everywhere_in_members is_bounded (members_of members) ≡ true
     pub means : flat_value (suc depth) t i ≡ Some (object (members_of members))
 
 -- the tokens begin with these values in a list: with whatever values the rest goes on, these and
 -- those are read as one list
-pub record BeginsValues (depth : ℕ) (ts rest : List Token) (values : List Value) : Type 0 where
+pub record BeginsValues (numbers : List ℕ → Option Value) (depth : ℕ) (ts rest : List Token)
+    (values : List Value) : Type 0 where
   pub rounds : ℕ
   pub enough : length rest ≤ rounds
   pub ahead : (vs : List Value) (end : List Token)
-      → ReadsItems whole_number depth rounds rest end (items_of vs)
-      → ReadsItems whole_number depth (length ts) ts end (items_of (values ++ vs))
-  pub short : everywhere_in_items list_fits (items_of values) ≡ true
+      → ReadsItems numbers depth rounds rest end (items_of vs)
+      → ReadsItems numbers depth (length ts) ts end (items_of (values ++ vs))
+  pub short : everywhere_in_items is_bounded (items_of values) ≡ true
 
 -- the same of the values of items
 pub record BeginsItems (depth : ℕ) (ts rest : List Token) (t : Shown) (items : List Item) : Type 0
   where
     pub values : List Value
-    pub begins : BeginsValues depth ts rest values
+    pub begins : BeginsValues (numbers_of t.exact) depth ts rest values
     pub open begins use *
     pub mean : all_of (flat_value depth t) items ≡ Some values
 
@@ -91,8 +95,8 @@ IsObjectOf members before after i =
 -- a reading of the text holds the value of the item
 pub record ReadsFlatText (source : List ℕ) (t : Shown) (i : Item) : Type 0 where
   pub value : Value
-  pub reads : ReadsText whole_number source value
-  pub short : everywhere list_fits value ≡ true
+  pub reads : ReadsText (numbers_of t.exact) source value
+  pub short : everywhere is_bounded value ≡ true
   pub means : flat_value most_levels t i ≡ Some value
 
 -- the characters write the whole number that the item is

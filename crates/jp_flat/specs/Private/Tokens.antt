@@ -69,6 +69,7 @@ abbrev pub TokenHolds : List ℕ → Token → Type 0
 TokenHolds d (code.Key s) = IsSpelledIn d s
 TokenHolds d (code.Text s) = IsSpelledIn d s
 TokenHolds d (code.Number s n) = IsSized s.now n
+TokenHolds d (code.Numeral first s) = StandsAt d first s.now
 TokenHolds d _ = Unit {0}
 
 -- the text that is spelled so, None where its escapes are none
@@ -89,6 +90,7 @@ token_of code.EndObject = spec.end_object
 token_of (code.Key s) = key_token (said s)
 token_of (code.Text s) = string_token (said s)
 token_of (code.Number s n) = spec.number s.now
+token_of (code.Numeral first s) = spec.number s.now
 token_of (code.Bool b) = spec.boolean b
 token_of code.Null = spec.null
 

@@ -12,6 +12,7 @@ use Rattle.jp_json.specs.declared.reason.JsonReason.TheVariants.{TrailingComma, 
 use Rattle.jp_json.specs.declared.reason.JsonReason.TheVariants.{WrongWord, WrongNumber, LeadingZero, ControlCharacter, WrongEscape}
 use Rattle.jp_json.specs.declared.reason.JsonReason.TheVariants.{HasFraction, NegativeZero, OutOfRange}
 use Rattle.jp_json.specs.declared.reason.JsonReason.TheVariants.{Unreadable, Unexpected}
+use Rattle.jp_json.specs.declared.reason.JsonReason.TheVariants.{NotUtf8, Utf16, Gzip, RecordSeparator, NullCharacter, NoBreakSpace}
 use Rattle.jp_json.specs.declared.state.Level.{Level}
 use Rattle.jp_json.specs.declared.state.Level.TheVariants.{Array, Object}
 use Rattle.jp_json.specs.declared.state.Part.{Part}
@@ -22,6 +23,7 @@ use Rattle.jp_json.specs.declared.state.State.TheVariants.{Value, Item, Member, 
 use Rattle.jp_json.specs.declared.state.State.TheVariants.{Text, Escape, Hex, Number, Letters}
 use Rattle.jp_json.specs.declared.reading.Stop.{Stop}
 use Rattle.jp_json.specs.declared.reading.Stop.TheVariants as stop
+use Rattle.jp_json.specs.Misreading.{is_gzip, is_utf16}
 use Rattle.jp_json.specs.Private.Machine.{ends_number}
 
 -- a digit, a letter, `_` or `$`
@@ -47,9 +49,15 @@ abbrev pub mark_reason : Option Level → JsonReason
 mark_reason None = ByteOrderMark
 mark_reason (Some l) = Unexpected
 
+-- U+001E begins each text of a JSON text sequence (RFC 7464 section 2.2)
+abbrev pub separator_reason : Option Level → JsonReason
+separator_reason None = RecordSeparator
+separator_reason (Some l) = Unexpected
+
 abbrev pub value_reason : Option Level → ℕ → JsonReason
 value_reason l c =
     if c == 65279 then mark_reason l
+    else if c == 30 then separator_reason l
     else if c == single_quote then SingleQuote
     else if is_comment c then Comment
     else if c == closing_bracket then bracket_reason l
@@ -100,19 +108,24 @@ number_reason Exponent l c = WrongNumber
 number_reason Sign l c = WrongNumber
 number_reason Power l c = past_number_reason l c
 
+-- outside of strings two characters show more than that other reason
+abbrev pub outside_reason : ℕ → JsonReason → JsonReason
+outside_reason c other =
+    if c == 0 then NullCharacter else if c == 160 then NoBreakSpace else other
+
 -- a character with which no text goes on
 abbrev pub unexpected_reason : Option Level → State → ℕ → JsonReason
-unexpected_reason l Value c = value_reason l c
-unexpected_reason l Item c = value_reason l c
-unexpected_reason l Member c = name_reason c
-unexpected_reason l Name c = name_reason c
-unexpected_reason l Colon c = colon_reason c
-unexpected_reason l After c = after_reason l c
+unexpected_reason l Value c = outside_reason c (value_reason l c)
+unexpected_reason l Item c = outside_reason c (value_reason l c)
+unexpected_reason l Member c = outside_reason c (name_reason c)
+unexpected_reason l Name c = outside_reason c (name_reason c)
+unexpected_reason l Colon c = outside_reason c (colon_reason c)
+unexpected_reason l After c = outside_reason c (after_reason l c)
 unexpected_reason l (Text r) c = ControlCharacter
 unexpected_reason l (Escape r) c = WrongEscape
 unexpected_reason l (Hex r w) c = WrongEscape
-unexpected_reason l (Number p) c = number_reason p l c
-unexpected_reason l (Letters w) c = WrongWord
+unexpected_reason l (Number p) c = outside_reason c (number_reason p l c)
+unexpected_reason l (Letters w) c = outside_reason c WrongWord
 
 -- an end between characters of strings, numbers and words
 abbrev pub open_reason : Option Level → JsonReason
@@ -135,6 +148,13 @@ stop_reason stop.Unfinished l s t = end_reason l s
 stop_reason stop.Unexpected l s [] = Unreadable
 stop_reason stop.Unexpected l s (c ∷ t) = unexpected_reason l s c
 stop_reason stop.TooDeep l s t = TooManyLevels
+
+-- bytes that no JSON text goes on with, for that reason, and bytes that are no UTF-8
+abbrev pub wrong_reason : List ℕ → JsonReason → JsonReason
+wrong_reason bytes other = if is_gzip bytes then Gzip else other
+
+abbrev pub encoding_reason : List ℕ → JsonReason
+encoding_reason bytes = if is_utf16 bytes then Utf16 else NotUtf8
 
 -- whether a number has a fraction or an exponent, and whether it has no digit but 0
 abbrev pub has_fraction : List ℕ → Bool

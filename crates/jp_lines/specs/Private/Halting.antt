@@ -16,9 +16,10 @@ StopsAtQuery profile query _ = ⊥
 
 -- the same of an expression
 abbrev pub StopsAtExpression : Profile → List ℕ → Unbegun → Type 0
-StopsAtExpression profile text (Expression r) = RefusesFilter profile text r
-StopsAtExpression profile text (Fault NoMemory) = ⊤
-StopsAtExpression profile text _ = ⊥
+StopsAtExpression profile expression (Expression text r) =
+    (text.now ≡ expression) × RefusesFilter profile expression r
+StopsAtExpression profile expression (Fault NoMemory) = ⊤
+StopsAtExpression profile expression _ = ⊥
 
 -- why not all of the queries were read: one is refused, or memory ran out
 abbrev pub StopsReading : Profile → List (List ℕ) → Unbegun → Type 0

@@ -16,7 +16,7 @@ use Rattle.std.proofs.lemmas.Map.Views.{tells_apart}
 use Rattle.std.proofs.lemmas.Option.{same_Some}
 use Rattle.jp_document.specs.Location.{Step, named, nth, step_cmp, items_from}
 use Rattle.jp_document.specs.Location.{members_by_name, entries, child}
-use Rattle.jp_document.specs.Value.{Value, null, boolean, whole, text, list, object}
+use Rattle.jp_document.specs.Value.{Value, null, boolean, whole, decimal, text, list, object}
 use Rattle.jp_document.specs.Value.{Items, no_items, item, item_count, Members}
 use Rattle.jp_document.specs.Value.{no_members, member, has_rising_names, NamesRise}
 use Rattle.jp_document.proofs.Descent.Inside.{everywhere-child}
@@ -24,7 +24,8 @@ use Rattle.jp_document.proofs.Descent.Steps.{step_cmp_total, step_exact}
 use Rattle.jp_document.proofs.Descent.Entries.{entries-rise_by_names}
 use Rattle.jp_document.proofs.Members.ByName.{child-list_named, child-object_nth}
 use Rattle.jp_select.specs.Comparison.{equals}
-use Rattle.jp_select.specs.Equality.{IsEqual, nulls, truths, numbers, texts, lists, objects}
+use Rattle.jp_select.specs.Equality.{IsEqual, nulls, truths, numbers, decimals, texts, lists}
+use Rattle.jp_select.specs.Equality.{objects}
 use Rattle.jp_select.specs.Laws.{EqualsIsExact}
 use Rattle.jp_select.proofs.Items.{child-item, item_list, length-item_list}
 use Rattle.jp_select.proofs.Locations.{by_children}
@@ -212,6 +213,7 @@ only_from_children : (v w : Value) → IsEqual v w → ChildrenAreOnly v → Nam
 only_from_children _ _ nulls each rise up = refl
 only_from_children _ _ (truths b) each rise up = refl
 only_from_children _ _ (numbers z) each rise up = refl
+only_from_children _ _ (decimals c e) each rise up = refl
 only_from_children _ _ (texts s) each rise up = refl
 only_from_children _ _ (lists vs ws count items) each rise up =
     same_list vs ws rise up alike
@@ -248,6 +250,7 @@ equal_itself = by_child (λ v. IsEqual v v) from_children
     from_children null each = nulls
     from_children (boolean b) each = truths b
     from_children (whole z) each = numbers z
+    from_children (decimal c e) each = decimals c e
     from_children (text s) each = texts s
     from_children (list vs) each =
         lists vs vs refl

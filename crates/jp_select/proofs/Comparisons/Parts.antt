@@ -4,14 +4,15 @@ use Rattle.std.proofs.Common.{List, [], ◌∷◌, length, drop, Option, Some, N
 use Rattle.std.proofs.Common.{sym, ap, ap₂, ◌∙◌, arith}
 use Rattle.std.specs.List.{slice_get}
 use Rattle.std.specs.Str.{bytes_eq}
-use Rattle.std.proofs.lemmas.Bool.{and_right}
+use Rattle.std.proofs.lemmas.Bool.{and_right, false≢true}
 use Rattle.std.proofs.lemmas.Bool.Decides.{Decides-eqb}
 use Rattle.jp_document.specs.Location.{Step, entries, items_from, members_by_name}
-use Rattle.jp_document.specs.Value.{Value, null, boolean, whole, text, list, object}
+use Rattle.jp_document.specs.Value.{Value, null, boolean, whole, decimal, text, list, object}
 use Rattle.jp_document.specs.Value.{Items, no_items, item, Members, no_members, member}
 use Rattle.jp_lent.specs.Lending.{bare}
 use Rattle.jp_select.specs.Comparison.{equals, same_items, same_members, same_value}
 use Rattle.jp_select.specs.Private.Parts.{same_part, same_parts}
+use Rattle.jp_select.proofs.Comparisons.Sameness.{equals_is, equals_itself}
 use Rattle.jp_select.proofs.Walks.{drop_at, drop_past}
 
 -- ---- the parts of lists and objects
@@ -52,6 +53,8 @@ parts_decide (boolean false) (list ws) h = absurd (cc)
 parts_decide (boolean false) (object ns) h = absurd (cc)
 parts_decide (whole x) (list ws) h = absurd (cc)
 parts_decide (whole x) (object ns) h = absurd (cc)
+parts_decide (decimal c e) (list ws) h = absurd (cc)
+parts_decide (decimal c e) (object ns) h = absurd (cc)
 parts_decide (text s) (list ws) h = absurd (cc)
 parts_decide (text s) (object ns) h = absurd (cc)
 parts_decide v w h = h
@@ -68,6 +71,17 @@ by_parts a b v w left right h =
     let both : same_value (bare v) (bare w) ≡ true =
     sym (ap₂ (λ c d. equals (option_map bare c) (option_map bare d)) left right) ∙ h in
     sym (ap₂ equals left right ∙ parts_decide v w both)
+
+pub unlike-looks : (a b : Option Value) → Looks false a b → false ≡ equals a b
+unlike-looks a b h = by (equals a b) refl
+  where
+    by : (r : Bool) → equals a b ≡ r → false ≡ equals a b
+    by false is = sym is
+    by true is =
+        absurd
+        (false≢true
+        (sym h ∙ ap (λ o. equals (option_map bare a) (option_map bare o)) (sym (equals_is a b is))
+        ∙ equals_itself (option_map bare a)))
 
 -- ---- part by part
 

@@ -4,8 +4,9 @@ use Rattle.std.proofs.Common.{refl, sym, ap, ap₂, ◌∙◌}
 use Rattle.std.proofs.lemmas.Bool.{and_parts, and_from}
 use Rattle.std.proofs.lemmas.Bool.Decides.{Decides-int_eq}
 use Rattle.std.proofs.lemmas.Slice.Eq.{bytes_eq-Decides}
+use Rattle.std.specs.Ordering.{int_eq}
 use Rattle.std.specs.Str.{bytes_eq}
-use Rattle.jp_document.specs.Value.{Value, null, boolean, whole, text, list, object}
+use Rattle.jp_document.specs.Value.{Value, null, boolean, whole, decimal, text, list, object}
 use Rattle.jp_document.specs.Value.{Items, no_items, item, Members, no_members, member}
 use Rattle.jp_select.specs.Comparison.{equals, same_value, same_items, same_members}
 
@@ -20,6 +21,8 @@ mutual
   same_itself (boolean true) = refl
   same_itself (boolean false) = refl
   same_itself (whole z) = (Decides-int_eq z z).1 refl
+  same_itself (decimal c e) =
+      and_from (int_eq c c) (int_eq e e) ((Decides-int_eq c c).1 refl) ((Decides-int_eq e e).1 refl)
   same_itself (text s) = same_bytes s
   same_itself (list vs) = items_themselves vs
   same_itself (object ms) = members_themselves ms
@@ -44,6 +47,9 @@ mutual
   same_is (boolean true) (boolean true) h = refl
   same_is (boolean false) (boolean false) h = refl
   same_is (whole x) (whole y) h = ap whole ((Decides-int_eq x y).0 h)
+  same_is (decimal c e) (decimal d f) h =
+      let both = and_parts (int_eq c d) (int_eq e f) h in
+      ap₂ decimal ((Decides-int_eq c d).0 both.0) ((Decides-int_eq e f).0 both.1)
   same_is (text s) (text t) h = ap text ((bytes_eq-Decides s t).0 h)
   same_is (list vs) (list ws) h = ap list (items_are vs ws h)
   same_is (object ms) (object ns) h = ap object (members_are ms ns h)

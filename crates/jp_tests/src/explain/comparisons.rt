@@ -136,6 +136,60 @@ pub const ROWS: &[Row] = &[
         "$[?@.a == 1]",
     ),
     (
+        "$[?@.a > .5]",
+        "         ^",
+        "A number does not begin with a dot.",
+        "",
+    ),
+    (
+        "$[?@.a == 0x8]",
+        "           ^",
+        "Numbers are written in base ten, such as 16 for 0x10.",
+        "",
+    ),
+    (
+        "$[?@.a==1,000]",
+        "           ^",
+        "No comma stands between the digits of a number.",
+        "$[?@.a==1000]",
+    ),
+    (
+        "$[?@.a > 1,000,000]",
+        "            ^",
+        "No comma stands between the digits of a number.",
+        "$[?@.a > 1000000]",
+    ),
+    (
+        "$[?@.a > 1,234,000]",
+        "                ^",
+        "No comma stands between the digits of a number.",
+        "",
+    ),
+    (
+        "$[?@.price < `10`]",
+        "             ^",
+        "Quotation marks are ' or \": this is another one.",
+        "$[?@.price < 10]",
+    ),
+    (
+        "$[?@.a == `-3`]",
+        "          ^",
+        "Quotation marks are ' or \": this is another one.",
+        "$[?@.a == -3]",
+    ),
+    (
+        "$[?@.a != `true`]",
+        "          ^",
+        "Quotation marks are ' or \": this is another one.",
+        "$[?@.a != true]",
+    ),
+    (
+        "$[?@.a == `x`]",
+        "          ^",
+        "Quotation marks are ' or \": this is another one.",
+        "$[?@.a == \"x\"]",
+    ),
+    (
         "$[?@.a == 18446744073709551616]",
         "          ^",
         "Numbers in queries go from -9223372036854775808 to 18446744073709551615.",
@@ -160,6 +214,18 @@ pub const ROWS: &[Row] = &[
         "$[?@.a != 1]",
     ),
     (
+        "$[?!@.isbn == true]",
+        "           ^",
+        "A comparison has two sides, without parentheses: join two by `&&`, and negate one as in `!(@.name == 1)`.",
+        "$[?!@.isbn]",
+    ),
+    (
+        "$[?!@.isbn == false]",
+        "           ^",
+        "A comparison has two sides, without parentheses: join two by `&&`, and negate one as in `!(@.name == 1)`.",
+        "$[?@.isbn]",
+    ),
+    (
         "$[?(@.a) == 1]",
         "         ^",
         "A comparison has two sides, without parentheses: join two by `&&`, and negate one as in `!(@.name == 1)`.",
@@ -181,7 +247,7 @@ pub const ROWS: &[Row] = &[
         "$[?@.a in [1,2]]",
         "       ^",
         "`in` is written as comparisons, such as `@.name == 1 || @.name == 2`.",
-        "",
+        "$[?(@.a == 1 || @.a == 2)]",
     ),
     (
         "$[?@.a == 'b' || 'c']",

@@ -11,7 +11,7 @@ const TEXTS: &[(&str, Profile, &str)] = &[
     (
         "$.a[\n  ?@.b = 1\n]",
         Standard,
-        "    ?@.b = 1\n          ^\nValues are compared with `==` and `!=`.\nTry: $.a[\\n  ?@.b == 1\\n]\n",
+        "    ?@.b = 1\n          ^\nValues are compared with `==` and `!=`.\nTry: $['a'][?@['b']==1]\n",
     ),
     (
         "$.a\n",
@@ -21,7 +21,7 @@ const TEXTS: &[(&str, Profile, &str)] = &[
     (
         "$\n.a\t",
         Standard,
-        "  .a\\t\n      ^\nA query ends with its last segment: no blank, newline or invisible character may stand after it.\nTry: $\\n.a\n",
+        "  .a\\t\n      ^\nA query ends with its last segment: no blank, newline or invisible character may stand after it.\nTry: $['a']\n",
     ),
     (
         "\u{feff}$.a",
@@ -42,6 +42,11 @@ const TEXTS: &[(&str, Profile, &str)] = &[
         "$[?@.a ==\u{a0}1]",
         Standard,
         "  $[?@.a ==\\u00a01]\n           ^\nAn invisible character, such as a no-break space, stands here.\nTry: $[?@.a == 1]\n",
+    ),
+    (
+        "$[?@['\u{a0}x'] = 1\t]",
+        Standard,
+        "  $[?@['\\u00a0x'] = 1\\t]\n                   ^\nValues are compared with `==` and `!=`.\nTry: $[?@['\\u00a0x']==1]\n",
     ),
     (
         "$[?count(distinct(@.a)) = 1]",

@@ -9,6 +9,20 @@ pub const ROWS: &[Row] = &[
         "A number does not begin with `0`, unless it is 0.",
         "$[1]",
     ),
+    (
+        "$[0x8]",
+        "   ^",
+        "Numbers are written in base ten, such as 16 for 0x10.",
+        "",
+    ),
+    (
+        "$[0;1]",
+        "   ^",
+        "No semicolon stands in brackets: selectors have commas between them, and a slice has colons.",
+        "",
+    ),
+    ("$[-]", "   ^", "A number comes right after a `-`.", ""),
+    ("$[.5]", "  ^", "A number does not begin with a dot.", ""),
     ("$[+1]", "  ^", "A number has no `+` before it.", "$[1]"),
     ("$[-0]", "   ^", "The index 0 has no `-` before it.", "$[0]"),
     (

@@ -22,6 +22,42 @@ pub const ROWS: &[Row] = &[
         "$.a",
     ),
     (
+        "@property",
+        "^",
+        "A query begins with `$`: `@` is the current node, and stands in filters alone.",
+        "",
+    ),
+    (
+        "records.jsonl",
+        "^",
+        "A query begins with `$`, and stands before the names of files.",
+        "",
+    ),
+    (
+        "./data/package.json",
+        "^",
+        "A query begins with `$`, and stands before the names of files.",
+        "",
+    ),
+    (
+        ".json",
+        "^",
+        "A query begins with `$`; if you typed one, the shell took it, so put the query in single quotes.",
+        "$.json",
+    ),
+    (
+        ".a // \"x\"",
+        "^",
+        "A query begins with `$`; if you typed one, the shell took it, so put the query in single quotes.",
+        "",
+    ),
+    (
+        "./a/b",
+        "^",
+        "A query begins with `$`; if you typed one, the shell took it, so put the query in single quotes.",
+        "$.a.b",
+    ),
+    (
         "0",
         "^",
         "A query begins with `$`; the shell makes a number of \"$[0]\", so put the query in single quotes.",

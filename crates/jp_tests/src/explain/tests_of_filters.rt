@@ -118,6 +118,12 @@ pub const ROWS: &[Row] = &[
         "",
     ),
     (
+        "$[?@.a xor @.b]",
+        "       ^",
+        "There is no such operator: there are ==, !=, <, <=, >, >=, &&, || and !.",
+        "",
+    ),
+    (
         "$[?len(@.a)>1]",
         "   ^",
         "The length of a text, an array or an object is `length(@.name)`.",

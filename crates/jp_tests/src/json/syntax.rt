@@ -51,6 +51,46 @@ pub const WORDS: &[Row] = &[
     (b"[@]", JsonReason::Unexpected, (1, 1, 2)),
 ];
 
+/// Bytes of other forms than JSON text in UTF-8, and such as show them but in part.
+pub const FORMS: &[Row] = &[
+    // gzip of an empty file (RFC 1952)
+    (
+        b"\x1f\x8b\x08\0\0\0\0\0\0\x03\x03\0\0\0\0\0\0\0\0\0",
+        JsonReason::Gzip,
+        (0, 1, 1),
+    ),
+    (b"\x1f\x8b", JsonReason::Gzip, (0, 1, 1)),
+    (b"\x1f", JsonReason::Unexpected, (0, 1, 1)),
+    (b"\x1f\x8a", JsonReason::Unexpected, (0, 1, 1)),
+    (b" \x1f\x8b", JsonReason::Unexpected, (1, 1, 2)),
+    (b"\xff\xfe[\0]\0", JsonReason::Utf16, (0, 1, 1)),
+    (b"\xfe\xff\0[\0]", JsonReason::Utf16, (0, 1, 1)),
+    (b"\xff\xfe", JsonReason::Utf16, (0, 1, 1)),
+    (b"\xff", JsonReason::NotUtf8, (0, 1, 1)),
+    (b"\xff\xff", JsonReason::NotUtf8, (0, 1, 1)),
+    (b"\xfe\xfe", JsonReason::NotUtf8, (0, 1, 1)),
+    (b"[\xff\xfe]", JsonReason::NotUtf8, (1, 1, 2)),
+    (b"{\0\"\0a\0", JsonReason::NullCharacter, (1, 1, 2)),
+    (b"\0{", JsonReason::NullCharacter, (0, 1, 1)),
+    (b"[\01", JsonReason::NullCharacter, (1, 1, 2)),
+    (b"1\0", JsonReason::NullCharacter, (1, 1, 2)),
+    (b"n\0u\0", JsonReason::NullCharacter, (1, 1, 2)),
+    (b"\"\0a\0\"", JsonReason::ControlCharacter, (1, 1, 2)),
+    (b"\x1e{}", JsonReason::RecordSeparator, (0, 1, 1)),
+    (b"\n\x1e{}", JsonReason::RecordSeparator, (1, 2, 1)),
+    (b"[\x1e]", JsonReason::Unexpected, (1, 1, 2)),
+    (b"{}\n\x1e{}", JsonReason::AfterValue, (3, 2, 1)),
+    (b"\xc2\xa0{}", JsonReason::NoBreakSpace, (0, 1, 1)),
+    (b"{\xc2\xa0\"a\":1}", JsonReason::NoBreakSpace, (1, 1, 2)),
+    (b"{\"a\"\xc2\xa0:1}", JsonReason::NoBreakSpace, (4, 1, 5)),
+    (b"{\"a\":\xc2\xa01}", JsonReason::NoBreakSpace, (5, 1, 6)),
+    (b"[1\xc2\xa0]", JsonReason::NoBreakSpace, (2, 1, 3)),
+    (b"[true\xc2\xa0]", JsonReason::NoBreakSpace, (5, 1, 6)),
+    (b"{}\xc2\xa0", JsonReason::NoBreakSpace, (2, 1, 3)),
+    (b"\"\\\xc2\xa0\"", JsonReason::WrongEscape, (2, 1, 3)),
+    (b"[\xc2\xa1]", JsonReason::Unexpected, (1, 1, 2)),
+];
+
 pub const SCALARS: &[Row] = &[
     (b"01", JsonReason::LeadingZero, (1, 1, 2)),
     (b"+1", JsonReason::WrongNumber, (0, 1, 1)),

@@ -8,7 +8,7 @@ returns-in_ok-explain-in_default c =
     c.requires.refused c.requires.only
     (record {
       placed = c.in_ok-explain-in_default.ensures.place;
-      reason = c.in_ok-explain-in_default.ensures.reason;
+      sentence = c.in_ok-explain-in_default.ensures.sentence;
       suggestion = c.in_ok-explain-in_default.ensures.suggestion;
     })
     c.told.ensures

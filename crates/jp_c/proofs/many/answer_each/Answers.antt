@@ -1,9 +1,10 @@
-use Rattle.std.proofs.Common.{◌+◌, ◌<◌, ◌≤◌, [], arith, length, refl, set, string_bytes, subst}
+use Rattle.std.proofs.Common.{◌+◌, ◌<◌, ◌≤◌, [], ap, arith, length, refl, set, string_bytes, subst}
 use Rattle.std.proofs.Common.{sym, take}
 use Rattle.std.proofs.lemmas.List.{take_all}
 use Rattle.jp_c.specs.Many.{AnswersEach, none}
 use Rattle.jp_c.specs.Private.Subjects.{IsAnswered}
 use Rattle.jp_c.proofs.Questions.{question-answered, questions-left}
+use Rattle.jp_c.proofs.QueriesRead.{read-at}
 use Rattle.jp_c.proofs.many.answer_each.Goals as goal
 
 pub loop-question-init : goal.loop-question-init
@@ -16,6 +17,7 @@ loop-question-init c =
           c.args.queries.now [] [])
           (sym c.new-texts.ensures.bytes) none;
       rest = refl;
+      counted = refl;
     }
 
 pub loop-question-preserved : goal.loop-question-preserved
@@ -38,7 +40,18 @@ loop-question-preserved c =
           (question-answered _ _ c.args.questions.now loop.questions (string_bytes loop.texts) step.0 i _ new
           loop.invariant.answered loop.invariant.rest within step.1);
       rest = questions-left c.args.questions.now loop.questions i new loop.invariant.rest;
+      counted = ap (λ n. n + 1) loop.invariant.counted;
     }
+
+pub answer_one-requires-clause-read : goal.answer_one-requires-clause-read
+answer_one-requires-clause-read c =
+    let loop = c.loop-question in
+    let i = loop.question-index in
+    let within : i < length loop.questions =
+    omega (arith, c.loop-question-test.true, loop.auto.questions)
+    in
+    read-at _ _ c.args.queries.now c.args.questions.now loop.questions c.args.reads.now loop.index i _
+    c.get.result loop.invariant.counted c.get.ensures.lookup c.requires.read loop.invariant.rest within
 
 pub returns : goal.returns
 returns c =

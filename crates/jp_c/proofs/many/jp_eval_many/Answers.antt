@@ -1,10 +1,21 @@
-use Rattle.std.proofs.Common.{◌≡◌, ℕ, List, rules, string_bytes, subst}
+use Rattle.std.proofs.Common.{◌≡◌, ℕ, List, Some, rules, string_bytes, subst, sym}
+use Rattle.std.specs.List.{slice_get}
 use Rattle.jp_c.specs.Calls.{IsEvalOutcome}
 use Rattle.jp_c.specs.Limit.{Within}
-use Rattle.jp_c.specs.Many.{AnswersEach}
+use Rattle.jp_c.specs.Many.{AnswersEach, query_asked}
 use Rattle.jp_c.specs.Outcome.{filled}
+use Rattle.jp_c.specs.Private.Subjects.{IsReadToServe}
 use Rattle.jp_c.specs.declared.limit.Limit.{Limit}
 use Rattle.jp_c.proofs.many.jp_eval_many.Goals as goal
+
+pub answer_each-texts-requires-clause-read : goal.answer_each-texts-requires-clause-read
+answer_each-texts-requires-clause-read c = λ i q r asked read.
+    let query = query_asked c.args.queries.now q in
+    subst (λ p. IsReadToServe p c.read-subject.result.plan.now.portion query r)
+    (sym c.read-subject.ensures.profile)
+    (subst (λ t. IsReadToServe c.args.profile t.portion query r) (sym c.read-subject.ensures.plan)
+    (c.read_each-reads.ensures i q r asked
+    (subst (λ rs. slice_get rs i ≡ Some r) c.deref.ensures.value read)))
 
 pub returns : goal.returns
 returns c =

@@ -1,6 +1,6 @@
 use Rattle.std.proofs.Common.{◌≡◌, ◌+◌, ◌∙◌, ap, arith, length, rules, sym}
 use Rattle.jp_evaluate.specs.Lent.{given_node}
-use Rattle.jp_command.specs.Lines.{line_behind}
+use Rattle.jp_command.specs.Lead.{line_behind}
 use Rattle.jp_command.proofs.Fronts.{along_none, comes_along}
 use Rattle.jp_command.proofs.LineLemmas.{given_more, given_none, given_part, goes-for_memory, line_alike}
 use Rattle.jp_command.proofs.LineLemmas.{part-goes, part-is_prefix, stops-for_memory}

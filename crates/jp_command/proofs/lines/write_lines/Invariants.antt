@@ -1,6 +1,6 @@
 use Rattle.std.proofs.Common.{◌≡◌, ◌+◌, false, length}
 use Rattle.jp_evaluate.specs.Lent.{has_failed, rest_of, steps_of}
-use Rattle.jp_command.specs.Lines.{line_behind}
+use Rattle.jp_command.specs.Lead.{line_behind}
 use Rattle.jp_command.specs.Private.AsFound.{WritesGiven}
 use Rattle.jp_command.specs.Private.Fronts.{IsAlong}
 use Rattle.jp_command.proofs.lines.write_lines.Given as goal

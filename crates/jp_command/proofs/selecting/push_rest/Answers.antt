@@ -2,7 +2,8 @@ use Rattle.std.proofs.Common.{◌≡◌, ◌+◌, ◌∷◌, ◌++◌, ◌∙◌
 use Rattle.std.specs.List.{flat_map}
 use Rattle.jp_evaluate.specs.Lent.{rest_of, given_node}
 use Rattle.jp_select.proofs.Stepping.{takes_then}
-use Rattle.jp_command.specs.Lines.{line_behind, line_of}
+use Rattle.jp_command.specs.Lead.{line_behind}
+use Rattle.jp_command.specs.Lines.{line_of}
 use Rattle.jp_command.specs.Private.Firsts.{is_more}
 use Rattle.jp_command.specs.Selecting.{IsBeyond, first_nodes}
 use Rattle.jp_command.proofs.Firsts.{first_more}

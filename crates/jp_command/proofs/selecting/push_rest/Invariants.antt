@@ -2,8 +2,8 @@ use Rattle.std.proofs.Common.{◌≡◌, ◌≤◌, ◌+◌, ◌++◌, false, le
 use Rattle.std.specs.List.{flat_map}
 use Rattle.jp_select.specs.Steps.{Takes}
 use Rattle.jp_evaluate.specs.Lent.{has_failed, rest_of, steps_of}
-use Rattle.jp_command.specs.Lines.{line_behind}
 use Rattle.jp_command.specs.Private.Fronts.{IsAlong}
+use Rattle.jp_command.specs.Lead.{line_behind}
 use Rattle.jp_command.specs.Selecting.{first_nodes}
 use Rattle.jp_command.proofs.selecting.push_rest.Given as goal
 

@@ -5,7 +5,8 @@ use Rattle.std.specs.List.{flat_map}
 use Rattle.jp_document.specs.Location.{step_of}
 use Rattle.jp_document.specs.Path.{step_text}
 use Rattle.jp_document.specs.declared.location.Step.{Step}
-use Rattle.jp_document.proofs.Writing.Appended.{all_of, on}
+use Rattle.jp_decimal.proofs.Begun.{all-of}
+use Rattle.jp_document.proofs.Writing.Appended.{on}
 use Rattle.jp_document.proofs.path.push_path.Goals as goal
 
 -- the steps to come, after the next
@@ -35,5 +36,5 @@ loop-step-preserved c =
           c.args.location.now))) c.in_ok-push_step.ensures.ok ∙ append_assoc now _ _ ∙ begun;
       kept =
           on _ _ now _ _ _ c.loop-step.invariant.kept begun
-          (all_of _ _ _ c.in_ok-push_step.ensures.ok);
+          (all-of _ _ _ c.in_ok-push_step.ensures.ok);
     }

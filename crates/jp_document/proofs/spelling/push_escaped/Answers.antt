@@ -1,6 +1,6 @@
 use Rattle.std.proofs.Common.{◌≡◌, [], ◌∷◌, ◌++◌, string_bytes, rules}
 use Rattle.std.specs.List.{flat_map}
-use Rattle.jp_document.specs.Appending.{IsPartAppended}
+use Rattle.jp_decimal.specs.Appended.{IsBegun}
 use Rattle.jp_document.specs.Spelling.{spelling}
 use Rattle.jp_document.proofs.Writing.Appended.{between}
 use Rattle.jp_document.proofs.spelling.push_escaped.Goals as goal
@@ -13,6 +13,6 @@ returns-clause-kept c =
     search rules in
     let written : string_bytes c.push_spelled.new.out ≡ string_bytes c.push.new.self ++ spelled =
     search rules in
-    let closed : IsPartAppended (string_bytes c.push_spelled.new.out) (quote ∷ [])
+    let closed : IsBegun (string_bytes c.push_spelled.new.out) (quote ∷ [])
     (string_bytes c.push-2.new.self) = search rules in
     between _ spelled _ _ _ quote quote opened written closed

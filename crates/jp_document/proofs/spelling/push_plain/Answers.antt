@@ -1,5 +1,5 @@
 use Rattle.std.proofs.Common.{◌≡◌, [], ◌∷◌, ◌++◌, string_bytes, rules, subst, sym}
-use Rattle.jp_document.specs.Appending.{IsPartAppended}
+use Rattle.jp_decimal.specs.Appended.{IsBegun}
 use Rattle.jp_document.proofs.Writing.Appended.{between}
 use Rattle.jp_document.proofs.spelling.push_plain.Goals as goal
 
@@ -11,8 +11,8 @@ returns-clause-kept c =
     search rules in
     let written : string_bytes c.push_str.new.self ≡ string_bytes c.push.new.self ++ text =
     search rules in
-    let closed : IsPartAppended (string_bytes c.push_str.new.self) (quote ∷ [])
+    let closed : IsBegun (string_bytes c.push_str.new.self) (quote ∷ [])
     (string_bytes c.push-2.new.self) = search rules in
-    subst (λ x. IsPartAppended (string_bytes c.args.out.now) (quote ∷ (x ++ quote ∷ []))
+    subst (λ x. IsBegun (string_bytes c.args.out.now) (quote ∷ (x ++ quote ∷ []))
     (string_bytes c.push-2.new.self)) (sym c.requires.plain)
     (between _ text _ _ _ quote quote opened written closed)

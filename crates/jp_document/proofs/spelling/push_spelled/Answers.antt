@@ -4,7 +4,8 @@ use Rattle.std.proofs.lemmas.Str.{IsCharBoundary-after_ascii}
 use Rattle.std.specs.List.{flat_map}
 use Rattle.std.specs.Str.{IsUtf8}
 use Rattle.jp_document.specs.Spelling.{spelling}
-use Rattle.jp_document.proofs.Writing.Appended.{after, all_of, on}
+use Rattle.jp_decimal.proofs.Begun.{after, all-of}
+use Rattle.jp_document.proofs.Writing.Appended.{on}
 use Rattle.jp_document.proofs.Writing.Runs.{moved, moving, cut_at, first_and_rest, ascii_after}
 use Rattle.jp_document.proofs.Writing.Runs.{IsUtf8-after}
 use Rattle.jp_document.proofs.spelling.push_spelled.Goals as goal
@@ -56,7 +57,7 @@ runs-preserved c =
           c.runs.invariant.kept
           (moving f (string_bytes c.args.out.now) (string_bytes c.runs.out) run c.runs.rest.now
           (drop 1 marked) (flat_map f c.args.text.now) first cut.0 cut.1 c.runs.invariant.whole)
-          (all_of _ _ _ (wrote ∙ append_assoc (string_bytes c.runs.out) run (f first)));
+          (all-of _ _ _ (wrote ∙ append_assoc (string_bytes c.runs.out) run (f first)));
     }
 
 pub returns-in_err-push_marked-clause-kept : goal.returns-in_err-push_marked-clause-kept

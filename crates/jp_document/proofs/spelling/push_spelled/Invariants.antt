@@ -1,6 +1,6 @@
 use Rattle.std.proofs.Common.{◌≡◌, ◌++◌, length, string_bytes}
 use Rattle.std.specs.List.{flat_map}
-use Rattle.jp_document.specs.Appending.{IsPartAppended}
+use Rattle.jp_decimal.specs.Appended.{IsBegun}
 use Rattle.jp_document.specs.Spelling.{spelling}
 use denote.Shadow.{shadow}
 use denote.Text.{Utf8}
@@ -12,7 +12,7 @@ invariant-runs l = record {
   utf8 : shadow (Utf8 l.rest);
   whole : string_bytes l.out ++ flat_map (spelling l.quote) l.rest ≡
       string_bytes l.initial.out ++ flat_map (spelling l.quote) l.text;
-  kept : IsPartAppended (string_bytes l.initial.out) (flat_map (spelling l.quote) l.text)
+  kept : IsBegun (string_bytes l.initial.out) (flat_map (spelling l.quote) l.text)
       (string_bytes l.out);
 }
 

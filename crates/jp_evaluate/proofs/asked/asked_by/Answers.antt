@@ -1,11 +1,9 @@
 use Rattle.std.proofs.Common.{IfSome, Some, String, Vec, ap, subst, ◌∙◌}
 use Rattle.std.specs.declared.alloc.Global.{Global}
-use Rattle.jp_tree.specs.Views.{query_of}
 use Rattle.jp_tree.specs.declared.tree.Query.{out-Query}
 use Rattle.jp_evaluate.proofs.Kept.Queries.{anywhere-asks, items-ask}
-use Rattle.jp_evaluate.proofs.Kept.Root.{query-asks-root}
 use Rattle.jp_evaluate.proofs.Nodelists.Along.{of_segments}
-use Rattle.jp_evaluate.specs.Private.Asks.{AskedOf, asks_items, asks_root}
+use Rattle.jp_evaluate.specs.Private.Asks.{AskedOf, asks_items}
 use Rattle.jp_evaluate.proofs.asked.asked_by.Goals as goal
 
 pub returns-in-Some : goal.returns-in-Some
@@ -22,10 +20,3 @@ returns-in-Some-2 c =
     items-ask c.args.query.now.query c.deref-2.result.now c.in-Some-2.names
     (c.deref-2.ensures.value ∙ ap (λ q. (out-Query q).segments.items) c.query.ensures.same)
     asked
-
-pub returns-in-Some-3 : goal.returns-in-Some-3
-returns-in-Some-3 c =
-    let q = query_of c.args.query.now.query in
-    let P : Vec (String Global) Global → Type 0 = λ ns. AskedOf ns.items (λ p. asks_root p q) in
-    query-asks-root q c.in-Some-3.names
-    (subst (λ o. IfSome o P) c.in-Some-3.is c.in_ok-names-2.ensures)

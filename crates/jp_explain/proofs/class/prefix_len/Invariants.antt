@@ -1,6 +1,6 @@
 use Rattle.std.proofs.Common.{◌≡◌, ◌+◌, drop}
 use Rattle.std.specs.List.{prefix_len}
-use Rattle.jp_explain.specs.Classes.{holds}
+use Rattle.jp_explain.specs.Private.Classes.{holds}
 use Rattle.jp_explain.proofs.class.prefix_len.Given as goal
 
 abbrev pub invariant-loop-c : goal.invariant-loop-c

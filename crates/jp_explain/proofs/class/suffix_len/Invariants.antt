@@ -1,6 +1,6 @@
 use Rattle.std.proofs.Common.{◌≡◌, ◌+◌, ◌≤◌, length}
 use Rattle.std.specs.List.{suffix_len}
-use Rattle.jp_explain.specs.Classes.{holds}
+use Rattle.jp_explain.specs.Private.Classes.{holds}
 use Rattle.jp_explain.proofs.class.suffix_len.Given as goal
 
 abbrev pub invariant-back : goal.invariant-back

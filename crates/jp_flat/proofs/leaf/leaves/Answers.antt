@@ -6,14 +6,14 @@ use Rattle.jp_flat.proofs.Loops.{leaves_begin, leaves_more}
 use Rattle.jp_flat.proofs.leaf.leaves.Goals as goal
 
 pub leaves-init : goal.leaves-init
-leaves-init c = record {
+leaves-init _ c = record {
   so = leaves_begin c.args.reader.now.tokens (shown c.args.tables.now);
   text = search rules;
   shorter = search rules;
 }
 
 pub leaves-preserved : goal.leaves-preserved
-leaves-preserved c =
+leaves-preserved _ c =
     let l = c.leaves in
     let k = token_of c.in_ok-token.token in
     let i = c.in_ok-item-in_default.item in

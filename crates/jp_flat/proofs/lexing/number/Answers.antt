@@ -1,11 +1,12 @@
-use Rattle.std.proofs.Common.{◌≡◌, ◌≤◌, ◌+◌, ◌-◌, ◌<◌, true, Some, take, drop, get_or, length, refl, arith}
+use Rattle.std.proofs.Common.{◌≡◌, ◌≤◌, ◌+◌, ◌-◌, ◌<◌, true, Some, take, drop, get_or, length, refl, sym, subst, arith}
 use Rattle.json.specs.Token.{number}
 use Rattle.json.specs.Word.{after_number}
-use Rattle.jp_flat.proofs.Punctuated.{gives_literal, is_number, whole_there}
+use Rattle.jp_flat.specs.Private.Tokens.{GivesToken}
+use Rattle.jp_flat.proofs.Punctuated.{gives_literal, is_number, number-there, whole-part}
 use Rattle.jp_flat.proofs.lexing.number.Goals as goal
 
 pub returns-clause-gives : goal.returns-clause-gives
-returns-clause-gives c =
+returns-clause-gives _ c =
     let d = c.args.bytes.now in
     let from = c.args.from in
     let first = c.past_minus-first.result in
@@ -15,12 +16,14 @@ returns-clause-gives c =
     let whole_one : c.is_whole.result ≡ true = grind arith in
     let zero : get_or d first 0 ≡ 48 → end ≡ first + 1 =
     λ byte. c.is_whole.ensures.zero whole_one byte in
-    let goes = c.in_ok-point.ensures in
+    let goes = c.in-Some.ensures in
     let whole : after_number (drop from.at d) ≡ Some (drop end d) =
-    whole_there d from.at first end c.past_minus-first.ensures.minus c.digits_end-end.ensures.end
-    some room zero goes.ends in
+    number-there d from.at end end end
+    (whole-part d from.at first end c.past_minus-first.ensures.minus c.digits_end-end.ensures.end
+    some room zero) goes.ends.point goes.ends.power in
     let within : from.at ≤ end = omega (arith, some, c.past_minus-first.ensures.within) in
     let s = take (end - from.at) (drop from.at d) in
-    gives_literal d s (number s) from c.in_ok-point.point end
+    subst (λ k. GivesToken d from k c.in-Some.point) (sym c.whole.ensures.token)
+    (gives_literal d s (number s) from c.in-Some.point end
     (is_number d from.at end within whole goes.ends.word) c.requires.begins within refl goes.ends.word
-    goes.goes
+    goes.goes)

@@ -1,6 +1,6 @@
 use Rattle.std.proofs.Common.{◌≡◌, ◌≢◌, arith, subst}
 use Rattle.json.specs.Lex.{tokens}
-use Rattle.jp_flat.specs.Flat.{most_levels}
+use Rattle.jp_document.specs.OfJson.{most_levels}
 use Rattle.jp_flat.specs.Private.NoJson.{Halts, IsMet, HasNoValue}
 use Rattle.jp_flat.specs.Private.Tokens.{tokens_from}
 use Rattle.jp_flat.specs.declared.met.Met.TheVariants.{Other}

@@ -1,4 +1,4 @@
-use Rattle.std.proofs.Common.{◌≡◌, ◌++◌, ◌∷◌, [], ◌<◌, Some, length, arith, rules}
+use Rattle.std.proofs.Common.{◌≡◌, ◌++◌, ◌∷◌, [], ◌<◌, Some, length, arith, refl, rules, ◌∙◌}
 use Rattle.json.specs.Json.{after_end_array}
 use Rattle.jp_flat.specs.Asked.{is_listed, with_members}
 use Rattle.jp_flat.specs.Flat.{shown}
@@ -12,6 +12,7 @@ items-init c = record {
       let at : c.len-base.result ≡ length c.args.pending.now.items.items = search rules in
       items-begin (is_listed c.args.names.now) c.args.depth c.args.reader.now.tokens
       (shown c.args.tables.now) c.len-base.result c.args.pending.now.items.items at;
+  exact = refl;
   text = search rules;
 }
 
@@ -33,6 +34,7 @@ items-preserved c =
           (items-more p c.args.depth c.args.reader.now.tokens l.reader.tokens r (shown l.tables) u
           c.len-base.result c.args.pending.now.items.items l.pending.items.items i less done.grows
           read l.invariant.so);
+      exact = done.grows.exact ∙ l.invariant.exact;
       text = search rules;
     }
 
@@ -43,4 +45,7 @@ returns-clause-keeps c =
     items-end (is_listed c.args.names.now) c.args.depth c.args.reader.now.tokens l.reader.tokens
     c.take_end_array.new.self.tokens (shown l.tables) (shown c.close_list.new.tables)
     c.len-base.result c.args.pending.now.items.items l.pending.items.items c.in_ok-list.list over
-    c.in_ok-list.ensures.few c.in_ok-list.ensures.list l.invariant.so
+    c.in_ok-list.ensures.few c.in_ok-list.ensures.list c.in_ok-list.ensures.grows l.invariant.so
+
+pub returns-clause-exact : goal.returns-clause-exact
+returns-clause-exact c = c.in_ok-list.ensures.grows.exact ∙ c.items.invariant.exact

@@ -8,6 +8,7 @@ abbrev pub invariant-items : goal.invariant-items
 invariant-items l = record {
   so : ItemsPicked (is_listed l.names) l.depth l.initial.reader.tokens l.reader.tokens (shown l.tables)
       l.base l.initial.pending.items.items l.pending.items.items;
+  exact : l.tables.exact ≡ l.initial.tables.exact;
   text : (l.reader.text ≡ l.tables.text.now) × (l.reader.text ≡ l.initial.reader.text);
 }
 

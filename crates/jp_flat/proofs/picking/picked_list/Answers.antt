@@ -32,5 +32,6 @@ returns-in_ok-item-in_default c =
           c.next.new.self.tokens c.value_behind.new.reader.tokens c.in_ok-token.token
           (shown c.value_behind.new.tables) c.in_ok-item-in_default.item first
           c.in_default.not-BeginArray done.reads;
+      exact = done.grows.exact;
       text = search rules;
     }

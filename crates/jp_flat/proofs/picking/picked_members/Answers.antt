@@ -92,4 +92,5 @@ returns-clause-keeps c =
     members-end (is_listed c.args.names.now) c.args.depth c.args.reader.now.tokens l.reader.tokens
     c.next_name.new.self.tokens (shown c.args.tables.now) (shown l.tables)
     (shown c.close_object.new.tables) c.len-base.result l.rises c.args.pending.now.members.items
-    l.pending.members.items c.in_ok-object.object over c.in_ok-object.ensures.object l.invariant.so
+    l.pending.members.items c.in_ok-object.object over c.in_ok-object.ensures.object
+    c.in_ok-object.ensures.grows l.invariant.so

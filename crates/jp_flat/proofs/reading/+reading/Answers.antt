@@ -15,7 +15,7 @@ use Rattle.jp_flat.proofs.reading.+reading.Goals as goal
 
 pub value-returns-in_ok-item-in_default-clause-reads :
     goal.value-returns-in_ok-item-in_default-clause-reads
-value-returns-in_ok-item-in_default-clause-reads t c =
+value-returns-in_ok-item-in_default-clause-reads _ t c =
     let k = token_of c.in_ok-token.token in
     let first : c.args.reader.now.tokens ≡ k ∷ c.next.new.self.tokens =
     c.in_ok-token.ensures.reads c.in_ok-item-in_default.ensures.good in
@@ -24,7 +24,7 @@ value-returns-in_ok-item-in_default-clause-reads t c =
 
 pub container-returns-in_ok-item-in-BeginArray-clause-reads :
     goal.container-returns-in_ok-item-in-BeginArray-clause-reads
-container-returns-in_ok-item-in-BeginArray-clause-reads t c =
+container-returns-in_ok-item-in-BeginArray-clause-reads _ t c =
     let k = token_of c.args.token in
     let is : k ≡ Token.begin_array = grind arith in
     flat-list c.args.depth (k ∷ c.args.reader.now.tokens) c.args.reader.now.tokens c.items.new.reader.tokens
@@ -33,7 +33,7 @@ container-returns-in_ok-item-in-BeginArray-clause-reads t c =
 
 pub container-returns-in_ok-item-in-BeginObject-clause-reads :
     goal.container-returns-in_ok-item-in-BeginObject-clause-reads
-container-returns-in_ok-item-in-BeginObject-clause-reads t c =
+container-returns-in_ok-item-in-BeginObject-clause-reads _ t c =
     let k = token_of c.args.token in
     let is : k ≡ Token.begin_object = grind arith in
     flat-object c.args.depth (k ∷ c.args.reader.now.tokens) c.args.reader.now.tokens c.members.new.reader.tokens
@@ -41,7 +41,7 @@ container-returns-in_ok-item-in-BeginObject-clause-reads t c =
     c.in_ok-item-in-BeginObject.ensures.reads
 
 pub items-returns-in-EndArray-clause-reads : goal.items-returns-in-EndArray-clause-reads
-items-returns-in-EndArray-clause-reads t c =
+items-returns-in-EndArray-clause-reads _ t c =
     let k = token_of c.in_ok-token.token in
     let r = c.leaves.new.reader.tokens in
     let is : k ≡ Token.end_array = grind arith in
@@ -52,12 +52,12 @@ items-returns-in-EndArray-clause-reads t c =
     c.in_ok-list.ensures.few c.in_ok-list.ensures.list c.in_ok-token.ensures.reads
 
 pub items-returns-in-EndArray-clause-grows : goal.items-returns-in-EndArray-clause-grows
-items-returns-in-EndArray-clause-grows t c =
+items-returns-in-EndArray-clause-grows _ t c =
     leaves_grow c.args.reader.now.tokens (token_of c.in_ok-token.token ∷ c.leaves.new.reader.tokens)
     (shown c.args.tables.now) (shown c.leaves.new.tables) c.in_ok-token.ensures.reads
 
 pub items-items-init : goal.items-items-init
-items-items-init t c =
+items-items-init _ t c =
     let k = token_of c.in_ok-token.token in
     let s = c.leaves.new.tables in
     let q = c.leaves.new.reader.tokens in
@@ -87,7 +87,7 @@ items-items-init t c =
     }
 
 pub items-items-preserved : goal.items-items-preserved
-items-items-preserved t c =
+items-items-preserved _ t c =
     let l = c.items in
     let same : c.take_end_array.new.self.tokens ≡ l.reader.tokens = grind arith in
     let done = c.in_ok-item-2.ensures in
@@ -107,16 +107,17 @@ items-items-preserved t c =
     }
 
 pub items-returns-clause-reads : goal.items-returns-clause-reads
-items-returns-clause-reads t c =
+items-returns-clause-reads _ t c =
     let l = c.items in
     let over : after_end_array l.reader.tokens ≡ Some c.take_end_array.new.self.tokens = grind arith in
     items_end c.args.depth c.args.reader.now.tokens l.reader.tokens c.take_end_array.new.self.tokens
     (shown c.args.tables.now) (shown l.tables) (shown c.close_list.new.tables) c.len-base.result
     c.args.pending.now.items.items l.pending.items.items c.in_ok-list-2.list over
-    c.in_ok-list-2.ensures.few c.in_ok-list-2.ensures.list l.invariant.so
+    c.in_ok-list-2.ensures.few c.in_ok-list-2.ensures.list c.in_ok-list-2.ensures.grows
+    l.invariant.so
 
 pub members-members-init : goal.members-members-init
-members-members-init t c = record {
+members-members-init _ t c = record {
   so =
       let at : c.len-base.result ≡ length c.args.pending.now.members.items = search rules in
       members_begin c.args.depth c.args.reader.now.tokens (shown c.args.tables.now) c.len-base.result
@@ -126,7 +127,7 @@ members-members-init t c = record {
 }
 
 pub members-returns-then-ends_alone-clause-reads : goal.members-returns-then-ends_alone-clause-reads
-members-returns-then-ends_alone-clause-reads t c =
+members-returns-then-ends_alone-clause-reads _ t c =
     let l = c.members in
     let spanned = c.in_ok-span.ensures.spanned in
     let k = spanned.text in
@@ -146,11 +147,11 @@ members-returns-then-ends_alone-clause-reads t c =
     (shown c.text_span.new.tables) (shown c.value.new.tables) (shown c.object_of_one.new.tables)
     c.len-base.result l.rises c.args.pending.now.members.items l.pending.members.items k p
     c.in_ok-object.object named shorter done.reads spanned.there c.in_ok-span.ensures.grows done.grows
-    over alone c.in_ok-object.ensures.object l.invariant.so
+    over alone c.in_ok-object.ensures.object c.in_ok-object.ensures.grows l.invariant.so
 
 pub members-returns-then-ends_alone-clause-members :
     goal.members-returns-then-ends_alone-clause-members
-members-returns-then-ends_alone-clause-members t c =
+members-returns-then-ends_alone-clause-members _ t c =
     let l = c.members in
     let so = l.invariant.so in
     let alone : c.len-base.result ≡ length l.pending.members.items = grind arith in
@@ -159,7 +160,7 @@ members-returns-then-ends_alone-clause-members t c =
     so.pushed so.at alone
 
 pub members-members-preserved : goal.members-members-preserved
-members-members-preserved t c =
+members-members-preserved _ t c =
     let l = c.members in
     let spanned = c.in_ok-span.ensures.spanned in
     let k = spanned.text in
@@ -190,10 +191,10 @@ members-members-preserved t c =
     }
 
 pub members-returns-clause-reads : goal.members-returns-clause-reads
-members-returns-clause-reads t c =
+members-returns-clause-reads _ t c =
     let l = c.members in
     let over : read_key l.reader.tokens ≡ Some (None, c.next_name.new.self.tokens) = grind arith in
     members_end c.args.depth c.args.reader.now.tokens l.reader.tokens c.next_name.new.self.tokens
     (shown c.args.tables.now) (shown l.tables) (shown c.close_object.new.tables) c.len-base.result
     l.rises c.args.pending.now.members.items l.pending.members.items c.in_ok-object-2.object over
-    c.in_ok-object-2.ensures.object l.invariant.so
+    c.in_ok-object-2.ensures.object c.in_ok-object-2.ensures.grows l.invariant.so

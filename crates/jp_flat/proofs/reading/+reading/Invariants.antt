@@ -4,19 +4,19 @@ use Rattle.jp_flat.proofs.Loops.{ItemsSoFar, MembersSoFar}
 use Rattle.jp_flat.proofs.reading.+reading.Given as goal
 
 abbrev pub decreases-value : goal.decreases-value
-decreases-value l = 3 * l.depth + 1
+decreases-value _ l = 3 * l.depth + 1
 
 abbrev pub decreases-container : goal.decreases-container
-decreases-container l = 3 * l.depth
+decreases-container _ l = 3 * l.depth
 
 abbrev pub decreases-items : goal.decreases-items
-decreases-items l = 3 * l.depth + 2
+decreases-items _ l = 3 * l.depth + 2
 
 abbrev pub decreases-members : goal.decreases-members
-decreases-members l = 3 * l.depth + 2
+decreases-members _ l = 3 * l.depth + 2
 
 abbrev pub invariant-items-items : goal.invariant-items-items
-invariant-items-items l = record {
+invariant-items-items _ l = record {
   so : ItemsSoFar l.depth l.fn.reader.tokens l.reader.tokens (shown l.fn.tables) (shown l.tables) l.base
       l.fn.pending.items.items l.pending.items.items;
   others : l.pending.members.items ≡ l.fn.pending.members.items;
@@ -24,10 +24,10 @@ invariant-items-items l = record {
 }
 
 abbrev pub decreases-items-items : goal.decreases-items-items
-decreases-items-items l = length l.reader.tokens
+decreases-items-items _ l = length l.reader.tokens
 
 abbrev pub invariant-members-members : goal.invariant-members-members
-invariant-members-members l = record {
+invariant-members-members _ l = record {
   so : MembersSoFar l.depth l.initial.reader.tokens l.reader.tokens (shown l.initial.tables) (shown l.tables)
       l.base l.rises l.initial.pending.members.items l.pending.members.items;
   others : l.pending.items.items ≡ l.initial.pending.items.items;
@@ -35,4 +35,4 @@ invariant-members-members l = record {
 }
 
 abbrev pub decreases-members-members : goal.decreases-members-members
-decreases-members-members l = length l.reader.tokens
+decreases-members-members _ l = length l.reader.tokens

@@ -5,7 +5,7 @@ use Rattle.jp_flat.proofs.Leaves.{leaf-read}
 use Rattle.jp_flat.proofs.reading.value_behind.Goals as goal
 
 pub returns-in_ok-item-in_default : goal.returns-in_ok-item-in_default
-returns-in_ok-item-in_default c =
+returns-in_ok-item-in_default _ c =
     let k = token_of c.args.token in
     let r = c.args.reader.now.tokens in
     let done = c.in_ok-item-in_default.ensures in

@@ -122,7 +122,7 @@ thin_items-returns-clause-keeps t c =
     c.take_end_array.new.self.tokens (shown c.args.tables.now) (shown l.tables)
     (shown c.close_list.new.tables) c.len-base.result c.args.pending.now.items.items
     l.pending.items.items c.in_ok-list-2.list over c.in_ok-list-2.ensures.few
-    c.in_ok-list-2.ensures.list l.invariant.so
+    c.in_ok-list-2.ensures.list c.in_ok-list-2.ensures.grows l.invariant.so
 
 pub thin_members-members-init : goal.thin_members-members-init
 thin_members-members-init t c = record {
@@ -180,7 +180,8 @@ thin_members-returns-clause-keeps t c =
     kept_members-end c.args.wanted.now c.args.depth c.args.reader.now.tokens l.reader.tokens
     c.next_name.new.self.tokens (shown c.args.tables.now) (shown l.tables)
     (shown c.close_object.new.tables) c.len-base.result l.rises c.args.pending.now.members.items
-    l.pending.members.items c.in_ok-object.object over c.in_ok-object.ensures.object l.invariant.so
+    l.pending.members.items c.in_ok-object.object over c.in_ok-object.ensures.object
+    c.in_ok-object.ensures.grows l.invariant.so
 
 pub member_behind-returns-in_ok-item-in_default-clause-keeps :
     goal.member_behind-returns-in_ok-item-in_default-clause-keeps

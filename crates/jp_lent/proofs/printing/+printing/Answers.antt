@@ -3,10 +3,11 @@ use Rattle.std.proofs.Common.{OnOk, drop, eqb, length, rules, string_bytes, subs
 use Rattle.std.proofs.lemmas.Option.{slice_get_within}
 use Rattle.std.specs.List.{join_with_byte}
 use Rattle.jp_reading.specs.Characters as char
-use Rattle.jp_document.specs.Appending.{IsPartAppended}
+use Rattle.jp_decimal.specs.Appended.{IsBegun}
 use Rattle.jp_document.specs.Location.{entries, step_of}
 use Rattle.jp_document.specs.Text.{text_of}
-use Rattle.jp_document.proofs.Writing.Appended.{after, all_of, between, first}
+use Rattle.jp_decimal.proofs.Begun.{after, all-of, first}
+use Rattle.jp_document.proofs.Writing.Appended.{between}
 use Rattle.jp_lent.specs.Lending.{step_with}
 use Rattle.jp_lent.specs.Private.Printing.{name_text, part_text, part_texts}
 use Rattle.jp_lent.proofs.Parts.{joined_more, list-printed, next_part, no_part, nothing_more}
@@ -79,7 +80,7 @@ push_parts-loop-part-preserved g t c =
       kept =
           part_more _ _ now (part_text e) _ _ _ i next c.loop-part.invariant.kept
           c.loop-part.invariant.whole
-          (all_of _ _ _ (wrote ∙ append_assoc now comma (part_text e)));
+          (all-of _ _ _ (wrote ∙ append_assoc now comma (part_text e)));
     }
 
 pub push_parts-returns-clause-ok : goal.push_parts-returns-clause-ok
@@ -121,7 +122,7 @@ push_value-returns-in-List-clause-ok g t c =
 pub push_value-returns-in-List-clause-kept : goal.push_value-returns-in-List-clause-kept
 push_value-returns-in-List-clause-kept g t c =
     let v = g.V.Lent.meaning c.args.value in
-    subst (λ x. IsPartAppended (string_bytes c.args.out.now) x (string_bytes c.push_copy.new.out))
+    subst (λ x. IsBegun (string_bytes c.args.out.now) x (string_bytes c.push_copy.new.out))
     (list-printed v c.in-List.ensures) c.push_copy.ensures.kept
 
 pub push_value-returns-in-Members-clause-ok : goal.push_value-returns-in-Members-clause-ok
@@ -134,6 +135,6 @@ push_value-returns-in-Members-clause-ok g t c =
 pub push_value-returns-in-Members-clause-kept : goal.push_value-returns-in-Members-clause-kept
 push_value-returns-in-Members-clause-kept g t c =
     let v = g.V.Lent.meaning c.args.value in
-    subst (λ x. IsPartAppended (string_bytes c.args.out.now) x
+    subst (λ x. IsBegun (string_bytes c.args.out.now) x
     (string_bytes c.push_copy-in-Members.new.out))
     (object-printed v c.in-Members.ensures) c.push_copy-in-Members.ensures.kept

@@ -1,7 +1,7 @@
 use Rattle.std.proofs.Common.{◌≡◌, ◌++◌, ◌-◌, suc, drop, length, string_bytes}
 use Rattle.std.specs.List.{join_with_byte}
 use Rattle.jp_reading.specs.Characters as char
-use Rattle.jp_document.specs.Appending.{IsPartAppended}
+use Rattle.jp_decimal.specs.Appended.{IsBegun}
 use Rattle.jp_document.specs.Location.{entries}
 use Rattle.jp_lent.specs.Private.Printing.{part_texts}
 use Rattle.jp_lent.proofs.Parts.{parts_from}
@@ -30,7 +30,7 @@ invariant-push_parts-loop-part g l =
     record {
       whole : string_bytes l.out ++ parts_from l.position (part_texts (drop l.position es))
           ≡ string_bytes l.initial.out ++ join_with_byte char.comma (part_texts es);
-      kept : IsPartAppended (string_bytes l.initial.out)
+      kept : IsBegun (string_bytes l.initial.out)
           (join_with_byte char.comma (part_texts es)) (string_bytes l.out);
     }
 

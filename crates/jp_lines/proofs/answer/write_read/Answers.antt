@@ -5,7 +5,7 @@ use Rattle.jp_tree.specs.Views.{query_of}
 use Rattle.jp_evaluate.specs.Nodelist.{nodelist}
 use Rattle.jp_evaluate.specs.Plan.{nodes_read}
 use Rattle.jp_command.specs.Found.{found_nodes}
-use Rattle.jp_command.specs.Output.{StopsWriting}
+use Rattle.jp_command.specs.Written.{StopsWriting}
 use Rattle.jp_lines.specs.Outcome.{lead_of}
 use Rattle.jp_lines.specs.Private.Limits.{WritesOrGivesUp, WritesWithin}
 use Rattle.jp_lines.specs.Task.{nodes_output, nodes_within}

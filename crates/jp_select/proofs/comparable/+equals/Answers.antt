@@ -7,7 +7,7 @@ use Rattle.jp_lent.specs.Lending.{step_with}
 use Rattle.jp_select.specs.Comparable.{comparable_of}
 use Rattle.jp_select.specs.Comparison.{equals}
 use Rattle.jp_select.proofs.Comparisons.Parts.{Looks, by_parts, part_missing, part_next, parts_done}
-use Rattle.jp_select.proofs.Comparisons.Parts.{unlike-lengths}
+use Rattle.jp_select.proofs.Comparisons.Parts.{unlike-lengths, unlike-looks}
 use Rattle.jp_select.proofs.Comparisons.Sameness.{equals-exact}
 use Rattle.jp_lent.proofs.Weights.{part_within, side_less}
 use Rattle.jp_select.proofs.comparable.+equals.Goals as goal
@@ -20,6 +20,17 @@ Comparable::equals-same_parts-requires g t c κs within = (
       c.in-Some.ensures c.decreases,
   within,
 )
+
+pub Comparable::equals-returns-then-not-looks_same-clause-value :
+    goal.Comparable::equals-returns-then-not-looks_same-clause-value
+Comparable::equals-returns-then-not-looks_same-clause-value g t c =
+    let m = g.V.Lent.meaning in
+    let a = comparable_of m c.args.self.now in
+    let b = comparable_of m c.args.other.now in
+    let looks : Looks false a b =
+    ap₂ equals (sym c.seen-left.ensures) (sym c.seen-right.ensures) ∙ sym c.looks_same.ensures
+    ∙ c.if-not-looks_same.true in
+    unlike-looks a b looks
 
 pub Comparable::equals-returns-clause-value : goal.Comparable::equals-returns-clause-value
 Comparable::equals-returns-clause-value g t c =

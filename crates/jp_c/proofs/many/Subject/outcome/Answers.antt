@@ -1,6 +1,25 @@
-use Rattle.std.proofs.Common.{◌∙◌, sym}
+use Rattle.std.proofs.Common.{◌∙◌, IfSome, subst, sym}
+use Rattle.jp_c.specs.Private.Subjects.{IsReadToServe}
 use Rattle.jp_c.proofs.Placed.{answer-told}
+use Rattle.jp_c.proofs.QueriesRead.{read-answers}
 use Rattle.jp_c.proofs.many.Subject.outcome.Goals as goal
+
+pub answer_from-answer-requires-clause-asked : goal.answer_from-answer-requires-clause-asked
+answer_from-answer-requires-clause-asked c =
+    let self = c.args.self.now in
+    let read = subst
+    (λ o. IfSome o (λ r. IsReadToServe self.profile self.plan.now.portion c.args.query.now r.now))
+    c.in-Some-read.is c.requires.read in
+    read.is c.in-Some-profile.profile (sym c.profile.ensures ∙ c.in-Some-profile.is)
+
+pub answer_from-answer-requires-clause-document : goal.answer_from-answer-requires-clause-document
+answer_from-answer-requires-clause-document c =
+    let self = c.args.self.now in
+    let read = subst
+    (λ o. IfSome o (λ r. IsReadToServe self.profile self.plan.now.portion c.args.query.now r.now))
+    c.in-Some-read.is c.requires.read in
+    read-answers c.in-Some-read.asked.now self.plan.now.portion self.document.now self.read read.serves
+    c.requires.sound.0
 
 pub returns : goal.returns
 returns c =

@@ -1,4 +1,4 @@
-use Rattle.std.proofs.Common.{◌≡◌, ◌∙◌, IsUtf8, map, refl, rules, subst}
+use Rattle.std.proofs.Common.{◌≡◌, ◌∙◌, IsUtf8, false, map, refl, rules, subst}
 use Rattle.jp_document.specs.Location.{owned_step}
 use Rattle.jp_flat.specs.Flat.{shown}
 use Rattle.jp_flat.specs.Private.Found.{FindsInText}
@@ -11,11 +11,12 @@ invariant_of-result c =
     let t = shown c.value_in.new.tables in
     let l = map owned_step c.args.location.now in
     let both : (c.in-Ok.text.now ≡ bytes) × IsUtf8 bytes = search rules in
+    let mode : t.exact ≡ false = c.in-Some.ensures.exact ∙ c.of-tables.ensures.exact in
     record {
-      sound = found-sound bytes t l both.1 c.in-Some-found.root
+      sound = found-sound bytes t l mode both.1 c.in-Some-found.root
           (subst (FindsInText bytes t l) c.in-Some-found.is
           (subst (λ s. FindsInText s t l c.in-Some.found) (c.of-tables.ensures.source ∙ both.0)
-          c.in-Some.ensures));
+          c.in-Some.ensures.finds));
     }
 
 pub returns-in-Some-found : goal.returns-in-Some-found
@@ -24,10 +25,11 @@ returns-in-Some-found c =
     let t = shown c.value_in.new.tables in
     let l = map owned_step c.args.location.now in
     let both : (c.in-Ok.text.now ≡ bytes) × IsUtf8 bytes = search rules in
-    value-found bytes t l both.1 _
+    let mode : t.exact ≡ false = c.in-Some.ensures.exact ∙ c.of-tables.ensures.exact in
+    value-found bytes t l mode both.1 _
     (subst (FindsInText bytes t l) c.in-Some-found.is
     (subst (λ s. FindsInText s t l c.in-Some.found) (c.of-tables.ensures.source ∙ both.0)
-    c.in-Some.ensures))
+    c.in-Some.ensures.finds))
     refl
 
 pub returns-in-None : goal.returns-in-None
@@ -36,7 +38,8 @@ returns-in-None c =
     let t = shown c.value_in.new.tables in
     let l = map owned_step c.args.location.now in
     let both : (c.in-Ok.text.now ≡ bytes) × IsUtf8 bytes = search rules in
-    none-found bytes t l both.1
+    let mode : t.exact ≡ false = c.in-Some.ensures.exact ∙ c.of-tables.ensures.exact in
+    none-found bytes t l mode both.1
     (subst (FindsInText bytes t l) c.in-None.is
     (subst (λ s. FindsInText s t l c.in-Some.found) (c.of-tables.ensures.source ∙ both.0)
-    c.in-Some.ensures))
+    c.in-Some.ensures.finds))

@@ -39,6 +39,15 @@ returns-in-Below c =
     ap whole (same ∙ c.below.ensures)
     ∙ sym (ap (λ i. bare (meaning t i)) c.in-Below.is ∙ ap bare (below-is t c.in-Below.halves))
 
+pub seen_numeral-requires : goal.seen_numeral-requires
+seen_numeral-requires c =
+    subst (λ i. is_flat (shown c.args.self.tables.now) i ≡ true) c.in-Numeral.is c.args.self.sound
+
+pub returns-in-Numeral : goal.returns-in-Numeral
+returns-in-Numeral c =
+    let t = shown c.args.self.tables.now in
+    c.seen_numeral.ensures ∙ sym (ap (λ i. bare (meaning t i)) c.in-Numeral.is)
+
 pub returns-in-Text : goal.returns-in-Text
 returns-in-Text c =
     let t = shown c.args.self.tables.now in

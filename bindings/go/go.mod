@@ -1,0 +1,4 @@
+// jp for Go. The package needs the standard library alone, and a C compiler.
+module jsonpath-jp
+
+go 1.19

@@ -1,0 +1,51 @@
+package jsonpath.jp;
+
+import com.fasterxml.jackson.core.JsonProcessingException;
+import com.fasterxml.jackson.databind.JsonNode;
+import com.fasterxml.jackson.databind.json.JsonMapper;
+import java.util.List;
+
+/** Values and documents as Jackson has them. Whole numbers stay exact. It asks for Jackson on the class path. */
+public final class JacksonValues {
+    private static final JsonMapper MAPPER = new JsonMapper();
+
+    private JacksonValues() {}
+
+    /**
+     * The value of a node.
+     *
+     * @param node the node
+     * @return its value
+     */
+    public static JsonNode of(Node node) {
+        try {
+            return MAPPER.readTree(node.value());
+        } catch (JsonProcessingException fault) {
+            throw new IllegalArgumentException("no JSON: " + node.value(), fault);
+        }
+    }
+
+    /**
+     * The values of nodes.
+     *
+     * @param nodes the nodes
+     * @return their values, in the same order
+     */
+    public static List<JsonNode> of(List<Node> nodes) {
+        return nodes.stream().map(JacksonValues::of).toList();
+    }
+
+    /**
+     * A value as a document, which a query can be asked of.
+     *
+     * @param value the value
+     * @return its text in UTF-8
+     */
+    public static byte[] text(JsonNode value) {
+        try {
+            return MAPPER.writeValueAsBytes(value);
+        } catch (JsonProcessingException fault) {
+            throw new IllegalArgumentException("no JSON is made of the value", fault);
+        }
+    }
+}

@@ -1,0 +1,306 @@
+//! Each status of `run_line`, with its line.
+
+use super::devices::{Broken, Drip, Narrow};
+use super::rows::{assert_ended, ended, words};
+use super::table::names::{IN_QUOTES, NAMES};
+use jp_command::{Device, exit_status, run_line};
+use std::alloc::Global;
+use std::io::{Error, ErrorKind, Read, Result as IoResult};
+use std::process::Abort;
+use std::test::Fail;
+
+/// A line of words, an input, and how that ends: the status, and what is written to either output.
+type Line = (
+    &'static [&'static str],
+    &'static str,
+    (u8, &'static str, &'static str),
+);
+
+/// What each subcommand writes.
+const FORMS: &[Line] = &[
+    (&["jp", "check", IN_QUOTES], NAMES, (0, "accepted\n", "")),
+    (
+        &["jp", "canon", IN_QUOTES],
+        NAMES,
+        (0, "$['\\'']['@']\n", ""),
+    ),
+    (&["jp", "eval", IN_QUOTES], NAMES, (0, "2\n", "")),
+    (
+        &["jp", "paths", IN_QUOTES],
+        NAMES,
+        (0, "$['\\'']['@']\n", ""),
+    ),
+    (
+        &["jp", "both", IN_QUOTES],
+        NAMES,
+        (0, "$['\\'']['@']\t2\n", ""),
+    ),
+    (
+        &["jp", "paths", "$.*"],
+        r#"{"\u001f\n'\\":1}"#,
+        (0, "$['\\u001f\\n\\'\\\\']\n", ""),
+    ),
+];
+
+/// A document, and a query that `Extended` alone accepts.
+const SOME_OR_NONE: &str = r#"[{"a":0},{}]"#;
+
+const HAS_SOME: &str = "$[?distinct(@.*)]";
+
+/// What `Standard` says of it.
+const UNKNOWN: (u8, &str, &str) = (1, "", "query refused: UnknownFunction at 3\n");
+
+const NO_QUERY: (u8, &str, &str) = (1, "", "query refused: Syntax at 0\n");
+
+/// What each subcommand says with the flag and without it, on either side of the query.
+const FLAGS: &[Line] = &[
+    (
+        &["jp", "check", HAS_SOME, "--extended"],
+        SOME_OR_NONE,
+        (0, "accepted\n", ""),
+    ),
+    (&["jp", "check", HAS_SOME], SOME_OR_NONE, UNKNOWN),
+    (
+        &["jp", "canon", HAS_SOME, "--extended"],
+        SOME_OR_NONE,
+        (0, "$[?distinct(@[*])]\n", ""),
+    ),
+    (&["jp", "canon", HAS_SOME], SOME_OR_NONE, UNKNOWN),
+    (
+        &["jp", "eval", HAS_SOME, "--extended"],
+        SOME_OR_NONE,
+        (0, "{\"a\":0}\n", ""),
+    ),
+    (&["jp", "eval", HAS_SOME], SOME_OR_NONE, UNKNOWN),
+    (
+        &["jp", "paths", HAS_SOME, "--extended"],
+        SOME_OR_NONE,
+        (0, "$[0]\n", ""),
+    ),
+    (&["jp", "paths", HAS_SOME], SOME_OR_NONE, UNKNOWN),
+    (
+        &["jp", "both", HAS_SOME, "--extended"],
+        SOME_OR_NONE,
+        (0, "$[0]\t{\"a\":0}\n", ""),
+    ),
+    (&["jp", "both", HAS_SOME], SOME_OR_NONE, UNKNOWN),
+    (
+        &["jp", "paths", "--extended", HAS_SOME],
+        SOME_OR_NONE,
+        (0, "$[0]\n", ""),
+    ),
+    (
+        &["jp", "paths", "--extended", "--", HAS_SOME],
+        SOME_OR_NONE,
+        (0, "$[0]\n", ""),
+    ),
+    (
+        &["jp", "paths", "--extended", "--", "-$"],
+        SOME_OR_NONE,
+        NO_QUERY,
+    ),
+    (&["jp", "paths", "--", "-$"], SOME_OR_NONE, NO_QUERY),
+    (&["jp", "paths", "--", "--extended"], SOME_OR_NONE, NO_QUERY),
+];
+
+#[test]
+fn ends_as_its_words_ask(rt: HostRuntime) -> Result<(), Fail> {
+    for (line, document, ended) in FORMS {
+        assert_ended(&rt, rt.alloc(), line, document.as_bytes(), *ended)?;
+    }
+    for (line, document, ended) in FLAGS {
+        assert_ended(&rt, rt.alloc(), line, document.as_bytes(), *ended)?;
+    }
+    let line = ["jp", "both", "$"];
+    let refused = (3, "", "document refused: NotJson\n");
+    assert_ended(&rt, rt.alloc(), &line, b"\"\xff\"".as_slice(), refused)
+}
+
+#[test]
+fn refuses_words_that_it_does_not_take(rt: HostRuntime) -> Result<(), Fail> {
+    let lines: [&[&str]; 19] = [
+        &[],
+        &["jp"],
+        &["jp", "both"],
+        &["jp", "both", "$", "$"],
+        &["jp", "value", "$"],
+        &["jp", "help"],
+        &["jp", "--help"],
+        &["jp", "--version"],
+        &["jp", "both", "--help"],
+        &["jp", "both", "--extended"],
+        &["jp", "both", "--extended", "$", "--extended"],
+        &["jp", "both", "--extended", "--extended", "$"],
+        &["jp", "both", "--explain"],
+        &["jp", "both", "--explain", "$", "--explain"],
+        &["jp", "--extended", "both", "$"],
+        &["jp", "both", "--", "$", "--extended"],
+        &["jp", "both", "--extended=true", "$"],
+        &["jp", "both", "--extend", "$"],
+        &["jp", "both", "-e", "$"],
+    ];
+    for line in lines {
+        let (status, output, faults) = ended(rt.alloc(), line, b"[1]".as_slice())?;
+        assert_eq!(rt; (status, output.len(), faults.is_empty()), (2, 0, false));
+    }
+    Ok(())
+}
+
+#[test]
+fn tells_of_each_subcommand_and_status_in_its_help(rt: HostRuntime) -> Result<(), Fail> {
+    let alloc = rt.alloc();
+    let (status, _, faults) = ended(alloc, &["jp", "--help"], b"[1]".as_slice())?;
+    assert_eq!(rt; status, 2);
+    let help = str::from_utf8(faults.as_slice())?;
+    for part in [
+        "\n  check ",
+        "\n  canon ",
+        "\n  eval ",
+        "\n  paths ",
+        "\n  both ",
+        "QUERY",
+        "--extended",
+        "--explain",
+        "jp eval '$[-1]'",
+        "0 done",
+        "1 query refused",
+        "2 usage or help",
+        "3 document refused",
+        "4 want of memory",
+        "5 read or write fault",
+    ] {
+        assert!(rt; help.contains(part), "{part}");
+    }
+    Ok(())
+}
+
+/// Words that clap tells of, and a part of what it tells: an example, or where a file's name goes.
+const TOLD: &[(&[&str], &str)] = &[
+    (
+        &["jp", "check", "--help"],
+        "\nExample: jp check --explain '$[?@.a=1]'\n",
+    ),
+    (
+        &["jp", "canon", "--help"],
+        "\nExample: jp canon '$.a[\"b\"]'\n",
+    ),
+    (
+        &["jp", "eval", "--help"],
+        "\nExample: echo '[1,2]' | jp eval '$[-1]'\n",
+    ),
+    (
+        &["jp", "paths", "--help"],
+        "\nExample: echo '[1,2]' | jp paths '$[?@>1]'\n",
+    ),
+    (
+        &["jp", "both", "--help"],
+        "\nExample: echo '[1,2]' | jp both '$.*'\n",
+    ),
+    (
+        &["jp", "eval", "$", "d.json"],
+        "\nUsage: jp eval [OPTIONS] <QUERY> < FILE\n",
+    ),
+    (
+        &["jp", "paths", "$", "d.json"],
+        "\nUsage: jp paths [OPTIONS] <QUERY> < FILE\n",
+    ),
+    (
+        &["jp", "both", "$", "d.json"],
+        "\nUsage: jp both [OPTIONS] <QUERY> < FILE\n",
+    ),
+];
+
+#[test]
+fn shows_an_example_of_each_subcommand_and_where_a_file_goes(rt: HostRuntime) -> Result<(), Fail> {
+    for (line, part) in TOLD {
+        let (status, _, faults) = ended(rt.alloc(), line, b"[1]".as_slice())?;
+        let text = str::from_utf8(faults.as_slice())?;
+        assert!(rt; status == 2 && text.contains(part), "{part}");
+    }
+    Ok(())
+}
+
+/// Asserts that a run from this input to this output ends with status 5 and this line.
+fn assert_fault<R: Read + Drop>(
+    rt: &impl Abort,
+    alloc: Global,
+    input: R,
+    output: Narrow,
+    line: &[u8],
+) -> Result<(), Fail> {
+    let mut faults = Vec::new(alloc);
+    let ended = run_line(
+        alloc,
+        words(alloc, &["jp", "both", "$"])?,
+        &mut Device::new(input),
+        &mut Device::new(output),
+        &mut Device::new(&mut faults),
+    );
+    assert_eq!(rt; (ended, faults.as_slice()), (5, line));
+    Ok(())
+}
+
+#[test]
+fn tells_failures_of_its_streams(rt: HostRuntime) -> Result<(), Fail> {
+    let alloc = rt.alloc();
+    let document = b"[1]".as_slice();
+    let wide = Narrow::new(alloc, 99, true);
+    assert_fault(&rt, alloc, Broken(b"[1"), wide, b"read fault\n")?;
+    let narrow = Narrow::new(alloc, 3, true);
+    assert_fault(&rt, alloc, document, narrow, b"write fault\n")?;
+    let unflushed = Narrow::new(alloc, 99, false);
+    assert_fault(&rt, alloc, document, unflushed, b"write fault\n")
+}
+
+#[test]
+fn flushes_only_an_output_that_took_all_and_only_once(rt: HostRuntime) -> Result<(), Fail> {
+    let alloc = rt.alloc();
+    for (failing, failing_flush, flush_count) in [(2, 0, 0), (0, 1, 1)] {
+        let mut drip = Drip::new(alloc, 1);
+        drip.failing = failing;
+        drip.failing_flush = failing_flush;
+        let ended = run_line(
+            alloc,
+            words(alloc, &["jp", "both", "$"])?,
+            &mut Device::new(b"[1]".as_slice()),
+            &mut Device::new(&mut drip),
+            &mut Device::new(Narrow::new(alloc, 99, true)),
+        );
+        assert_eq!(rt; (ended, drip.flush_count), (5, flush_count));
+    }
+    Ok(())
+}
+
+#[test]
+fn keeps_its_status_where_its_line_cannot_be_written(rt: HostRuntime) -> Result<(), Fail> {
+    let alloc = rt.alloc();
+    for (query, status) in [("$", 3), ("$[", 1)] {
+        let ended = run_line(
+            alloc,
+            words(alloc, &["jp", "both", query])?,
+            &mut Device::new(b"".as_slice()),
+            &mut Device::new(Narrow::new(alloc, 99, true)),
+            &mut Device::new(Narrow::new(alloc, 7, true)),
+        );
+        assert_eq!(rt; ended, status);
+    }
+    Ok(())
+}
+
+/// Asserts that a program whose run answered this ends with this status, and tells this.
+fn assert_exit(rt: &impl Abort, alloc: Global, answer: IoResult<u8>, status: u8, line: &str) {
+    let mut told = Vec::new(alloc);
+    let ended = exit_status(alloc, answer, &mut Device::new(&mut told));
+    assert_eq!(rt; (ended, told.as_slice()), (status, line.as_bytes()));
+}
+
+#[test]
+fn the_status_of_a_program_that_cannot_begin(rt: HostRuntime) {
+    let alloc = rt.alloc();
+    assert_exit(&rt, alloc, Ok(3), 3, "");
+    let exhausted = Err(Error::from(ErrorKind::OutOfMemory));
+    assert_exit(&rt, alloc, exhausted, 4, "want of memory\n");
+    let words = Err(Error::from(ErrorKind::InvalidData));
+    assert_exit(&rt, alloc, words, 2, "words refused: NotUtf8\n");
+    assert_exit(&rt, alloc, Err(Error::from(ErrorKind::InvalidInput)), 2, "");
+}

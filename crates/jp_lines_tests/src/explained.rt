@@ -1,0 +1,249 @@
+//! What `--explain` adds to the report of a line that is refused.
+
+use super::devices::{Alone, Narrow, Trickle};
+use super::programs::{assert_ends, words};
+use jp_check::Profile::Standard;
+use jp_command::Device;
+use jp_limit::OutputLimit;
+use jp_lines::{Options, Wanted, run_lines, run_program};
+use std::alloc::{AllocError, Global};
+use std::process::Abort;
+
+/// A document, a blank line, a comma too many, a number that is not whole, an end too early before a
+/// carriage return, and a document.
+const LINES: &str = "{\"a\":1}\n\n{\"a\": [1,]}\n[1.5]\n{\"a\":\r\n{\"a\":2}";
+
+/// What is told of the first of them that is refused.
+const FIRST: &str = "line 3: document refused: NotJson\n\
+    line 3, column 10: No comma may come before a closing bracket.\n";
+
+/// What is told of all.
+const ALL: &str = "line 3: document refused: NotJson\n\
+    line 3, column 10: No comma may come before a closing bracket.\n\
+    line 4: document refused: NotWhole at $[0]\n\
+    line 4, column 2, at $[0]: A number with a fraction or an exponent is no whole number.\n\
+    line 5: document refused: NotJson\n\
+    line 5, column 7: The text ends within an object: its closing brace is missing. \
+    A document ends with its line: jp eval '$' writes it on one.\n";
+
+/// What is told of all without the flag.
+const PLAIN: &str = "line 3: document refused: NotJson\n\
+    line 4: document refused: NotWhole at $[0]\nline 5: document refused: NotJson\n";
+
+#[test]
+fn explains_lines_where_that_is_asked_for(rt: HostRuntime) -> Result<(), AllocError> {
+    let runs: [(&[&str], &str, &str); 7] = [
+        (&["jp-lines", "eval", "--explain", "$.a"], "1\n", FIRST),
+        (&["jp-lines", "eval", "$..a", "--explain"], "1\n", FIRST),
+        (
+            &["jp-lines", "eval", "--explain", "--keep-going", "$.a"],
+            "1\n2\n",
+            ALL,
+        ),
+        (
+            &[
+                "jp-lines",
+                "paths",
+                "--keep-going",
+                "--number",
+                "--explain",
+                "$..a",
+            ],
+            "1\t$['a']\n6\t$['a']\n",
+            ALL,
+        ),
+        (
+            &[
+                "jp-lines",
+                "count",
+                "--explain",
+                "--keep-going",
+                "--limit",
+                "9",
+                "$..a",
+            ],
+            "1\n1\n",
+            ALL,
+        ),
+        (
+            &["jp-lines", "eval", "--keep-going", "$.a"],
+            "1\n2\n",
+            PLAIN,
+        ),
+        (
+            &["jp-lines", "eval", "$..a"],
+            "1\n",
+            "line 3: document refused: NotJson\n",
+        ),
+    ];
+    for (line, written, told) in runs {
+        assert_ends(&rt, rt.alloc(), line, LINES, false, (3, written, told, 1))?;
+    }
+    Ok(())
+}
+
+/// Lines that are no documents, and what is told of them.
+const OTHER_FORMS: [(&str, &str); 12] = [
+    (
+        "{\"a\":1} {\"a\":2}",
+        "column 9: Only blanks may come after the value. Each line holds one document.\n",
+    ),
+    (
+        "1,",
+        "column 2: Only blanks may come after the value. Each line holds one document.\n",
+    ),
+    (
+        "{",
+        "column 2: The text ends within an object: its closing brace is missing. \
+        A document ends with its line: jp eval '$' writes it on one.\n",
+    ),
+    (
+        "{\"a\":[1,",
+        "column 9: The text ends within an array: its closing bracket is missing. \
+        A document ends with its line: jp eval '$' writes it on one.\n",
+    ),
+    (
+        "\u{1e}{\"a\":1}",
+        "column 1: A record separator (RFC 7464) stands before the value, and JSON has none. \
+        tr -d '\\036' takes it away.\n",
+    ),
+    (
+        "\u{1e}{\"a\":",
+        "column 1: A record separator (RFC 7464) stands before the value, and JSON has none. \
+        tr -d '\\036' takes it away.\n",
+    ),
+    (
+        " \u{1e}{}",
+        "column 2: A record separator (RFC 7464) stands before the value, and JSON has none. \
+        tr -d '\\036' takes it away.\n",
+    ),
+    (
+        "{\"a\":\u{a0}1}",
+        "column 6: A no-break space (U+00A0) stands here: JSON has plain spaces between its parts.\n",
+    ),
+    (
+        "{\0\"\0a\0\"\0}\0",
+        "column 2: A null character stands here, as in UTF-16: JSON is UTF-8.\n",
+    ),
+    ("{\"a\":\u{1e}1}", "column 6: No value begins so.\n"),
+    ("@", "column 1: No value begins so.\n"),
+    (
+        "\u{feff}{}",
+        "column 1: A byte order mark stands before the value, and JSON has none.\n",
+    ),
+];
+
+#[test]
+fn tells_which_other_form_a_line_shows(rt: HostRuntime) -> Result<(), AllocError> {
+    for (line, why) in OTHER_FORMS {
+        for size in [1, 2, 3, 7, 100] {
+            assert_second(&rt, rt.alloc(), line, why, size)?;
+        }
+    }
+    Ok(())
+}
+
+/// Asserts what is told of a line behind a document, where reads give so many bytes.
+fn assert_second(
+    rt: &impl Abort,
+    alloc: Global,
+    line: &str,
+    why: &str,
+    size: usize,
+) -> Result<(), AllocError> {
+    let options = Options {
+        numbered: false,
+        keep_going: true,
+        line_buffered: false,
+        explaining: true,
+        exit_status: false,
+        summary: false,
+        reports: Some(1),
+        limit: None,
+        output_limit: OutputLimit::none(),
+    };
+    let lines = format!(in alloc; "{{}}\n{line}\n{line}\n")?;
+    let told = format!(in alloc; "line 2: document refused: NotJson\nline 2, {why}")?;
+    let mut faults = Narrow::new(alloc, usize::MAX);
+    let input = Trickle {
+        bytes: lines.as_bytes(),
+        size,
+        fails: false,
+    };
+    let ended = run_lines(
+        alloc,
+        "$",
+        Standard,
+        Wanted::Count,
+        options,
+        &mut Device::new(input),
+        &mut Device::new(Narrow::new(alloc, usize::MAX)),
+        &mut Device::new(&mut faults),
+    );
+    assert!(rt; ended.is_ok());
+    assert!(rt; faults.taken.as_slice() == told.as_bytes());
+    Ok(())
+}
+
+#[test]
+fn explains_no_line_that_is_a_document_or_too_large(rt: HostRuntime) -> Result<(), AllocError> {
+    let alloc = rt.alloc();
+    let limited = ["jp-lines", "eval", "--explain", "--limit", "1", "$..a"];
+    let told = "line 1: document refused: StepsUsedUp\n";
+    assert_ends(&rt, alloc, &limited, "[[]]\n", false, (3, "", told, 1))?;
+    let eval = ["jp-lines", "eval", "--explain", "$"];
+    let large = "[".repeat(alloc, 16_777_217)?;
+    let told = "line 1: document refused: DocumentTooLarge\n";
+    assert_whole(&rt, alloc, &eval, large.as_str(), told)
+}
+
+/// Asserts what is told of lines that come by large reads, of which nothing is written.
+fn assert_whole(
+    rt: &impl Abort,
+    alloc: Global,
+    line: &[&str],
+    lines: &str,
+    told: &str,
+) -> Result<(), AllocError> {
+    let mut faults = Narrow::new(alloc, usize::MAX);
+    let ended = run_program(
+        alloc,
+        words(alloc, line)?,
+        &mut Alone::new(lines.as_bytes()),
+        &mut Device::new(Narrow::new(alloc, 0)),
+        &mut Device::new(&mut faults),
+    );
+    assert_eq!(rt; ended, 3);
+    assert!(rt; faults.taken.as_slice() == told.as_bytes());
+    Ok(())
+}
+
+#[test]
+fn explains_lines_until_a_write_fails(rt: HostRuntime) -> Result<(), AllocError> {
+    let going: [&str; 5] = ["jp-lines", "count", "--explain", "--keep-going", "$.a"];
+    let stopping: [&str; 4] = ["jp-lines", "count", "--explain", "$.a"];
+    assert_prefixes(&rt, rt.alloc(), &going, ALL)?;
+    assert_prefixes(&rt, rt.alloc(), &stopping, FIRST)
+}
+
+/// Asserts that of what is told as much is written as comes before a write that fails, and no more.
+fn assert_prefixes(
+    rt: &impl Abort,
+    alloc: Global,
+    line: &[&str],
+    told: &str,
+) -> Result<(), AllocError> {
+    for room in 0..=told.len() {
+        let mut faults = Narrow::new(alloc, room);
+        let ended = run_program(
+            alloc,
+            words(alloc, line)?,
+            &mut Alone::new(LINES.as_bytes()),
+            &mut Device::new(Narrow::new(alloc, usize::MAX)),
+            &mut Device::new(&mut faults),
+        );
+        assert_eq!(rt; ended, 3);
+        assert!(rt; told.as_bytes().get(..room) == Some(faults.taken.as_slice()));
+    }
+    Ok(())
+}

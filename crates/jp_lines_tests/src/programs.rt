@@ -1,0 +1,518 @@
+//! What the program writes and tells with each status.
+
+use super::devices::{Alone, Narrow, Trickle, Unflushed};
+use jp_command::Device;
+use jp_lines::run_program;
+use std::alloc::{AllocError, Global};
+use std::process::Abort;
+use std::test::Fail;
+
+/// A document in the first line, none in the second, a fault in the third, and in the fourth a
+/// document before a carriage return.
+const LINES: &str = "{\"a\":1,\"b\":[2,3]}\n\nx\n[4]\r\n";
+
+/// The words with a subcommand, flags and a query.
+pub fn words(alloc: Global, line: &[&str]) -> Result<Vec<String>, AllocError> {
+    let mut words = Vec::new(alloc);
+    for word in line {
+        words.push(String::from_str(alloc, *word)?)?;
+    }
+    Ok(words)
+}
+
+/// How a program ends: its status, what it writes, what it tells, and how often it flushes.
+pub type Ended<'a> = (u8, &'a str, &'a str, usize);
+
+/// Runs the program over lines, where a read behind them fails if it is to.
+pub fn assert_ends(
+    rt: &impl Abort,
+    alloc: Global,
+    line: &[&str],
+    lines: &str,
+    fails: bool,
+    (status, written, told, flushes): Ended<'_>,
+) -> Result<(), AllocError> {
+    let mut output = Narrow::new(alloc, usize::MAX);
+    let mut faults = Narrow::new(alloc, usize::MAX);
+    let input = Trickle {
+        bytes: lines.as_bytes(),
+        size: 3,
+        fails,
+    };
+    let ended = run_program(
+        alloc,
+        words(alloc, line)?,
+        &mut Alone::new(input),
+        &mut Device::new(&mut output),
+        &mut Device::new(&mut faults),
+    );
+    assert_eq!(rt; ended, status);
+    assert!(rt; output.taken.as_slice() == written.as_bytes());
+    assert!(rt; faults.taken.as_slice() == told.as_bytes());
+    assert_eq!(rt; output.flushes, flushes);
+    Ok(())
+}
+
+#[test]
+fn writes_what_its_words_ask_for(rt: HostRuntime) -> Result<(), AllocError> {
+    let refused = "line 3: document refused: NotJson\n";
+    let runs: [(&[&str], &str); 7] = [
+        (&["jp-lines", "eval", "$.*"], "1\n[2,3]\n"),
+        (
+            &["jp-lines", "eval", "--keep-going", "$.*"],
+            "1\n[2,3]\n4\n",
+        ),
+        (
+            &["jp-lines", "paths", "$.*", "--keep-going", "--number"],
+            "1\t$['a']\n1\t$['b']\n4\t$[0]\n",
+        ),
+        (
+            &["jp-lines", "both", "--keep-going", "$.*"],
+            "$['a']\t1\n$['b']\t[2,3]\n$[0]\t4\n",
+        ),
+        (&["jp-lines", "count", "--keep-going", "$.*"], "2\n1\n"),
+        (&["jp-lines", "count", "--number", "$.*"], "1\t2\n"),
+        (
+            &["jp-lines", "eval", "--extended", "$[?distinct(@[*])]"],
+            "[2,3]\n",
+        ),
+    ];
+    for (line, written) in runs {
+        assert_ends(
+            &rt,
+            rt.alloc(),
+            line,
+            LINES,
+            false,
+            (3, written, refused, 1),
+        )?;
+    }
+    Ok(())
+}
+
+/// Lines with a text at `$.user.name`, none, another value than an object, escapes, a name twice and a
+/// number; the fourth and the seventh are no documents, and the eighth is blank.
+const USERS: &str =
+    "{\"id\":[1,{}],\"user\":{\"name\":\"Ann\",\"x\":null}}\n{\"user\":{\"id\":2}}\nnull\n\
+    {\"user\":{\"name\":4}\n{\"\\u0075ser\":{\"n\\u0061me\":\"\\u0041\\n\"}}\n\
+    {\"user\":{\"name\":0,\"name\":{\"a\":[ ]}}}\n\
+    {\"user\":{\"name\":7},\"more\":[1.5]}\n \r\n{\"user\":{\"name\":9}}";
+
+#[test]
+fn finds_the_value_at_the_location_that_a_query_names(rt: HostRuntime) -> Result<(), AllocError> {
+    let told = "line 4: document refused: NotJson\n\
+        line 7: document refused: NotWhole at $['more'][0]\n";
+    let runs: [(&[&str], &str); 4] = [
+        (
+            &["jp-lines", "eval", "--keep-going", "$.user.name"],
+            "\"Ann\"\n\"A\\n\"\n{\"a\":[]}\n9\n",
+        ),
+        (
+            &[
+                "jp-lines",
+                "both",
+                "--number",
+                "--keep-going",
+                "$['user'].name",
+            ],
+            "1\t$['user']['name']\t\"Ann\"\n5\t$['user']['name']\t\"A\\n\"\n\
+            6\t$['user']['name']\t{\"a\":[]}\n9\t$['user']['name']\t9\n",
+        ),
+        (
+            &["jp-lines", "count", "--keep-going", "$.user.name"],
+            "1\n0\n0\n1\n1\n1\n",
+        ),
+        (
+            &["jp-lines", "count", "--number", "--keep-going", "$.id[1]"],
+            "1\t1\n2\t0\n3\t0\n5\t0\n6\t0\n9\t0\n",
+        ),
+    ];
+    for (line, written) in runs {
+        assert_ends(&rt, rt.alloc(), line, USERS, false, (3, written, told, 1))?;
+    }
+    Ok(())
+}
+
+#[test]
+fn flushes_after_each_document_where_that_is_asked_for(rt: HostRuntime) -> Result<(), AllocError> {
+    let mut output = Unflushed {
+        taken: Vec::new(rt.alloc()),
+    };
+    let mut faults = Narrow::new(rt.alloc(), usize::MAX);
+    let ended = run_program(
+        rt.alloc(),
+        words(rt.alloc(), &["jp-lines", "eval", "--line-buffered", "$[0]"])?,
+        &mut Alone::new(b"[1]\n[2]\n".as_slice()),
+        &mut Device::new(&mut output),
+        &mut Device::new(&mut faults),
+    );
+    assert_eq!(rt; ended, 5);
+    assert!(rt; output.taken.as_slice() == "1\n".as_bytes());
+    assert!(rt; faults.taken.as_slice() == "write fault\n".as_bytes());
+    Ok(())
+}
+
+#[test]
+fn ends_with_the_status_of_its_run(rt: HostRuntime) -> Result<(), AllocError> {
+    let alloc = rt.alloc();
+    let eval = ["jp-lines", "eval", "$[1]"];
+    assert_ends(&rt, alloc, &eval, "[1,2]\n[3]\n", false, (0, "2\n", "", 1))?;
+    assert_ends(&rt, alloc, &eval, "", false, (0, "", "", 1))?;
+    let not_whole = "line 2: document refused: NotWhole at $['a'][1]\n";
+    let lines = "[0,0]\n{\"a\":[1,1.5]}\n";
+    assert_ends(&rt, alloc, &eval, lines, false, (3, "0\n", not_whole, 1))?;
+    assert_ends(
+        &rt,
+        alloc,
+        &eval,
+        "[1,2]\n[3,4]",
+        true,
+        (5, "2\n", "read fault\n", 1),
+    )?;
+    let extended = ["jp-lines", "count", "$[?distinct(@[*])]"];
+    assert_ends(&rt, alloc, &extended, "[]\n", false, (1, "", UNKNOWN, 0))?;
+    let long = long_query(alloc)?;
+    let too_long = ["jp-lines", "count", long.as_str()];
+    assert_ends(&rt, alloc, &too_long, "[]\n", false, (1, "", TOO_LONG, 0))
+}
+
+/// What is told of a query that `Extended` alone accepts.
+const UNKNOWN: &str = "query refused: UnknownFunction at 3\n  $[?distinct(@[*])]\n     ^\n\
+    `distinct` is a function of the extended profile alone: give the option --extended.\n";
+
+/// What is told of a query that is too long.
+const TOO_LONG: &str =
+    "query refused: TextTooLong at 0\nThe query is longer than the program takes.\n";
+
+/// A query of more than 2^20 bytes.
+fn long_query(alloc: Global) -> Result<String, AllocError> {
+    let segments = ".a".repeat(alloc, 524_288)?;
+    format!(in alloc; "${segments}")
+}
+
+#[test]
+fn refuses_words_that_name_no_run(rt: HostRuntime) -> Result<(), AllocError> {
+    let lines: [&[&str]; 20] = [
+        &["jp-lines"],
+        &["jp-lines", "check", "$"],
+        &["jp-lines", "eval"],
+        &["jp-lines", "count", "--raw", "$"],
+        &["jp-lines", "eval", "--number", "--number", "$"],
+        &["jp-lines", "keep"],
+        &["jp-lines", "keep", "--first", "@"],
+        &["jp-lines", "eval", "--limit"],
+        &["jp-lines", "eval", "--limit", "$"],
+        &["jp-lines", "eval", "--limit", "0", "$"],
+        &["jp-lines", "eval", "--limit", "1.5", "$"],
+        &["jp-lines", "eval", "--limit=-1", "$"],
+        &["jp-lines", "eval", "--limit", "18446744073709551616", "$"],
+        &["jp-lines", "eval", "--limit", "1", "--limit", "1", "$"],
+        &["jp-lines", "eval", "--reports", "few", "$"],
+        &["jp-lines", "eval", "--max-nodes", "$"],
+        &["jp-lines", "keep", "--max-nodes", "0", "@"],
+        &["jp-lines", "count", "--max-nodes=18446744073709551616", "$"],
+        &["jp-lines", "columns", "--max-bytes", "1k", "$"],
+        &["jp-lines", "paths", "--max-bytes=1", "--max-bytes=1", "$"],
+    ];
+    for line in lines {
+        let mut input = Trickle {
+            bytes: b"[1]",
+            size: 3,
+            fails: false,
+        };
+        let mut output = Narrow::new(rt.alloc(), usize::MAX);
+        let mut faults = Narrow::new(rt.alloc(), usize::MAX);
+        let ended = run_program(
+            rt.alloc(),
+            words(rt.alloc(), line)?,
+            &mut Alone::new(&mut input),
+            &mut Device::new(&mut output),
+            &mut Device::new(&mut faults),
+        );
+        assert_eq!(rt; (ended, input.bytes.len(), output.taken.len()), (2, 3, 0));
+        assert!(rt; !faults.taken.is_empty());
+    }
+    Ok(())
+}
+
+/// Words that ask for help or for the version, and a part of what they are answered.
+const SHOWN: &[(&[&str], &str)] = &[
+    (
+        &["jp-lines", "--help"],
+        "\nExample: printf '{\"a\":1}\\n{\"a\":2}\\n' | jp-lines eval '$.a'\n",
+    ),
+    (
+        &["/usr/lib/jp_lines_main", "--help"],
+        "\nUsage: jp-lines <COMMAND>\n",
+    ),
+    (&["jp-lines", "--version"], "jp-lines 0.1.0\n"),
+    (
+        &["jp-lines", "keep", "--help"],
+        "\nExample: printf '{\"a\":1}\\n{\"a\":2}\\n' | jp-lines keep '@.a > 1'\n",
+    ),
+    (
+        &["jp-lines", "eval", "--help"],
+        "\nExample: printf '[1]\\n[2]\\n' | jp-lines eval '$[0]'\n",
+    ),
+    (
+        &["jp-lines", "paths", "--help"],
+        "\nExample: printf '[1]\\n[2]\\n' | jp-lines paths --number '$[?@>1]'\n",
+    ),
+    (
+        &["jp-lines", "both", "--help"],
+        "\nExample: printf '[1]\\n[2]\\n' | jp-lines both --number '$.*'\n",
+    ),
+    (
+        &["jp-lines", "help", "count"],
+        "\nExample: printf '[1]\\n[2,3]\\n' | jp-lines count '$.*'\n",
+    ),
+];
+
+#[test]
+fn writes_help_and_the_version(rt: HostRuntime) -> Result<(), Fail> {
+    for (line, part) in SHOWN {
+        let mut output = Narrow::new(rt.alloc(), usize::MAX);
+        let mut faults = Narrow::new(rt.alloc(), usize::MAX);
+        let mut lines = b"[1]".as_slice();
+        let ended = run_program(
+            rt.alloc(),
+            words(rt.alloc(), line)?,
+            &mut Alone::new(&mut lines),
+            &mut Device::new(&mut output),
+            &mut Device::new(&mut faults),
+        );
+        assert_eq!(rt;
+            (ended, output.flushes, faults.taken.len(), lines.len()),
+            (0, 1, 0, 3)
+        );
+        let text = str::from_utf8(output.taken.as_slice())?;
+        assert!(rt; text.contains(part), "{part}");
+    }
+    Ok(())
+}
+
+#[test]
+fn tells_that_help_could_not_be_written(rt: HostRuntime) -> Result<(), AllocError> {
+    for room in [0, 1, 100] {
+        let mut output = Narrow::new(rt.alloc(), room);
+        let mut faults = Narrow::new(rt.alloc(), usize::MAX);
+        let ended = run_program(
+            rt.alloc(),
+            words(rt.alloc(), &["jp-lines", "--help"])?,
+            &mut Alone::new(b"[1]".as_slice()),
+            &mut Device::new(&mut output),
+            &mut Device::new(&mut faults),
+        );
+        assert_eq!(rt; (ended, output.taken.len(), output.flushes), (5, room, 0));
+        assert!(rt; faults.taken.as_slice() == "write fault\n".as_bytes());
+    }
+    let mut output = Unflushed {
+        taken: Vec::new(rt.alloc()),
+    };
+    let mut faults = Narrow::new(rt.alloc(), usize::MAX);
+    let ended = run_program(
+        rt.alloc(),
+        words(rt.alloc(), &["jp-lines", "--version"])?,
+        &mut Alone::new(b"[1]".as_slice()),
+        &mut Device::new(&mut output),
+        &mut Device::new(&mut faults),
+    );
+    assert_eq!(rt; ended, 5);
+    assert!(rt; output.taken.as_slice() == "jp-lines 0.1.0\n".as_bytes());
+    assert!(rt; faults.taken.as_slice() == "write fault\n".as_bytes());
+    Ok(())
+}
+
+#[test]
+fn tells_where_the_names_of_files_go(rt: HostRuntime) -> Result<(), Fail> {
+    let mut faults = Narrow::new(rt.alloc(), usize::MAX);
+    let ended = run_program(
+        rt.alloc(),
+        words(rt.alloc(), &["jp-lines", "eval", "--file", "d.jsonl", "$"])?,
+        &mut Alone::new(b"[1]".as_slice()),
+        &mut Device::new(Narrow::new(rt.alloc(), usize::MAX)),
+        &mut Device::new(&mut faults),
+    );
+    let text = str::from_utf8(faults.taken.as_slice())?;
+    let part = "\nUsage: jp-lines eval [OPTIONS] <QUERY> [FILE]..\n";
+    assert!(rt; ended == 2 && text.contains(part), "{text}");
+    Ok(())
+}
+
+#[test]
+fn explains_a_refused_query_until_a_write_fails(rt: HostRuntime) -> Result<(), AllocError> {
+    for room in 0..=UNKNOWN.len() {
+        let mut faults = Narrow::new(rt.alloc(), room);
+        let ended = run_program(
+            rt.alloc(),
+            words(rt.alloc(), &["jp-lines", "count", "$[?distinct(@[*])]"])?,
+            &mut Alone::new(b"[]".as_slice()),
+            &mut Device::new(Narrow::new(rt.alloc(), usize::MAX)),
+            &mut Device::new(&mut faults),
+        );
+        assert_eq!(rt; ended, 1);
+        assert!(rt; UNKNOWN.as_bytes().get(..room) == Some(faults.taken.as_slice()));
+    }
+    Ok(())
+}
+
+#[test]
+fn tells_that_a_flush_failed(rt: HostRuntime) -> Result<(), AllocError> {
+    for lines in ["[1]\n", "[1]\nx\n"] {
+        let mut output = Unflushed {
+            taken: Vec::new(rt.alloc()),
+        };
+        let mut faults = Narrow::new(rt.alloc(), usize::MAX);
+        let ended = run_program(
+            rt.alloc(),
+            words(rt.alloc(), &["jp-lines", "eval", "$[0]"])?,
+            &mut Alone::new(lines.as_bytes()),
+            &mut Device::new(&mut output),
+            &mut Device::new(&mut faults),
+        );
+        assert_eq!(rt; ended, 5);
+        assert!(rt; output.taken.as_slice() == "1\n".as_bytes());
+        assert!(rt; faults.taken.as_slice() == "write fault\n".as_bytes());
+    }
+    Ok(())
+}
+
+#[test]
+fn tells_a_flush_that_failed_after_a_read_that_did(rt: HostRuntime) -> Result<(), AllocError> {
+    let mut output = Unflushed {
+        taken: Vec::new(rt.alloc()),
+    };
+    let mut faults = Narrow::new(rt.alloc(), usize::MAX);
+    let input = Trickle {
+        bytes: b"[1]\n[2",
+        size: 3,
+        fails: true,
+    };
+    let ended = run_program(
+        rt.alloc(),
+        words(rt.alloc(), &["jp-lines", "eval", "$[0]"])?,
+        &mut Alone::new(input),
+        &mut Device::new(&mut output),
+        &mut Device::new(&mut faults),
+    );
+    assert_eq!(rt; ended, 5);
+    assert!(rt; output.taken.as_slice() == "1\n".as_bytes());
+    assert!(rt; faults.taken.as_slice() == "write fault\n".as_bytes());
+    Ok(())
+}
+
+#[test]
+fn flushes_no_output_whose_write_failed(rt: HostRuntime) -> Result<(), AllocError> {
+    let mut output = Narrow::new(rt.alloc(), 1);
+    let mut faults = Narrow::new(rt.alloc(), usize::MAX);
+    let ended = run_program(
+        rt.alloc(),
+        words(rt.alloc(), &["jp-lines", "eval", "$[0]"])?,
+        &mut Alone::new(b"[1]\n[2]\n".as_slice()),
+        &mut Device::new(&mut output),
+        &mut Device::new(&mut faults),
+    );
+    assert_eq!(rt; (ended, output.flushes), (5, 0));
+    assert!(rt; output.taken.as_slice() == "1".as_bytes());
+    assert!(rt; faults.taken.as_slice() == "write fault\n".as_bytes());
+    Ok(())
+}
+
+#[test]
+fn writes_no_more_faults_after_one_that_failed(rt: HostRuntime) -> Result<(), AllocError> {
+    let mut output = Narrow::new(rt.alloc(), 1);
+    let mut faults = Narrow::new(rt.alloc(), 4);
+    let ended = run_program(
+        rt.alloc(),
+        words(rt.alloc(), &["jp-lines", "eval", "--keep-going", "$[0]"])?,
+        &mut Alone::new(b"x\n[1]\n".as_slice()),
+        &mut Device::new(&mut output),
+        &mut Device::new(&mut faults),
+    );
+    assert_eq!(rt; ended, 5);
+    assert!(rt; faults.taken.as_slice() == "line".as_bytes());
+    Ok(())
+}
+
+#[test]
+fn tells_by_its_status_that_nothing_is_selected(rt: HostRuntime) -> Result<(), AllocError> {
+    let refused = "line 1: document refused: NotJson\n";
+    let runs: [(&[&str], &str, Ended<'_>); 14] = [
+        (&["eval", "$.a"], "{\"b\":1}\n[]\n", (6, "", "", 1)),
+        (&["paths", "$..a"], "{\"b\":1}\n[]\n", (6, "", "", 1)),
+        (&["count", "$.a"], "{\"b\":1}\n[]\n", (6, "0\n0\n", "", 1)),
+        (&["count", "$..a"], "{\"b\":1}\n", (6, "0\n", "", 1)),
+        (&["eval", "$"], "", (6, "", "", 1)),
+        (&["eval", "$..*"], "\n \r\n\t", (6, "", "", 1)),
+        (
+            &["eval", "$.a"],
+            "[]\n\n{\"a\":null}\n[]",
+            (0, "null\n", "", 1),
+        ),
+        (
+            &["both", "--number", "$[?@>6]"],
+            "[]\n[7]\n{}\n",
+            (0, "2\t$[0]\t7\n", "", 1),
+        ),
+        (&["count", "$..a"], "[]\n{\"a\":1}", (0, "0\n1\n", "", 1)),
+        (&["eval", "--limit", "9", "$.*"], "[]\n{}\n", (6, "", "", 1)),
+        (
+            &["eval", "--limit", "9", "$.*"],
+            "[1]\n{}\n",
+            (0, "1\n", "", 1),
+        ),
+        (
+            &["eval", "--keep-going", "$.a"],
+            "x\n{}",
+            (3, "", refused, 1),
+        ),
+        (&["eval", "$.a"], "x\n{\"a\":1}", (3, "", refused, 1)),
+        (&["eval", "$[1]"], "[]\n", (6, "", "", 1)),
+    ];
+    for (words, lines, ended) in runs {
+        let mut line = Vec::new(rt.alloc());
+        line.extend_from_slice(&["jp-lines"])?;
+        line.extend_from_slice(words)?;
+        line.push("--exit-status")?;
+        assert_ends(&rt, rt.alloc(), line.as_slice(), lines, false, ended)?;
+    }
+    let fails = ["jp-lines", "eval", "--exit-status", "$.a"];
+    let told = (5, "", "read fault\n", 1);
+    assert_ends(&rt, rt.alloc(), &fails, "{}\n", true, told)?;
+    let plain = ["jp-lines", "eval", "$.a"];
+    assert_ends(&rt, rt.alloc(), &plain, "{}\n", false, (0, "", "", 1))
+}
+
+#[test]
+fn writes_the_first_node_of_each_document_alone(rt: HostRuntime) -> Result<(), AllocError> {
+    let lines = "{\"a\":1,\"b\":[2,{\"a\":3}]}\n\nx\n[]\n[{\"a\":4}]\r\n";
+    let told = "line 3: document refused: NotJson\n";
+    let runs: [(&[&str], &str); 9] = [
+        (&["eval", "$.*"], "1\n{\"a\":4}\n"),
+        (&["eval", "$..a"], "1\n4\n"),
+        (&["paths", "$..a"], "$['a']\n$[0]['a']\n"),
+        (
+            &["both", "--number", "$..a"],
+            "1\t$['a']\t1\n5\t$[0]['a']\t4\n",
+        ),
+        (&["count", "$..a"], "1\n0\n1\n"),
+        (&["count", "--number", "$..*"], "1\t1\n4\t0\n5\t1\n"),
+        (&["eval", "$[0].a"], "4\n"),
+        (&["count", "$[0]"], "0\n0\n1\n"),
+        (&["count", "--line-buffered", "$"], "1\n1\n1\n"),
+    ];
+    for (words, written) in runs {
+        let mut line = Vec::new(rt.alloc());
+        line.extend_from_slice(&["jp-lines"])?;
+        line.extend_from_slice(words)?;
+        line.extend_from_slice(&["--keep-going", "--first"])?;
+        let flushes = if words.contains(&"--line-buffered") {
+            6
+        } else {
+            1
+        };
+        let ended = (3, written, told, flushes);
+        assert_ends(&rt, rt.alloc(), line.as_slice(), lines, false, ended)?;
+    }
+    Ok(())
+}
