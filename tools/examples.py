@@ -11,6 +11,7 @@ examples are left out that have the word in them.
 """
 import os
 import re
+import shutil
 import subprocess
 import sys
 import tempfile
@@ -49,26 +50,29 @@ def of_man(text):
     return [(command, "\n".join(printed)) for command, printed in found]
 
 
-def run(command, programs):
-    """What a command prints, and its status, in a folder where bin/ has these programs by their names."""
-    with tempfile.TemporaryDirectory() as folder:
-        os.mkdir(os.path.join(folder, "bin"))
-        for name, path in programs.items():
-            os.symlink(os.path.realpath(path), os.path.join(folder, "bin", name))
-        environment = {**os.environ, "PATH": f"{folder}/bin:{os.environ['PATH']}"}
-        how = {"stdin": subprocess.DEVNULL, "stdout": subprocess.PIPE, "stderr": subprocess.STDOUT}
-        done = subprocess.run(["bash", "-c", command], cwd=folder, env=environment, check=False, **how)
+def run(command, programs, folder):
+    """What a command prints, and its status, in this folder, where bin/ has these programs by their names."""
+    bin_folder = os.path.join(folder, "bin")
+    shutil.rmtree(bin_folder, ignore_errors=True)
+    os.mkdir(bin_folder)
+    for name, path in programs.items():
+        os.symlink(os.path.realpath(path), os.path.join(bin_folder, name))
+    environment = {**os.environ, "PATH": f"{bin_folder}:{os.environ['PATH']}"}
+    how = {"stdin": subprocess.DEVNULL, "stdout": subprocess.PIPE, "stderr": subprocess.STDOUT}
+    done = subprocess.run(["bash", "-c", command], cwd=folder, env=environment, check=False, **how)
     return done.stdout.decode().rstrip("\n"), done.returncode
 
 
 def faults_of(found, programs, status_of=None):
-    """What is told of each example that prints something else, or ends otherwise than by another program."""
-    for command, expected in found:
-        printed, status = run(command, programs)
-        if printed != expected:
-            yield f"{command}\nprints:\n{printed}\nand not:\n{expected}"
-        if status_of and run(command, {**programs, "jp": status_of})[1] != status:
-            yield f"{command}\nends with another status than by {status_of}: {status}"
+    """What is told of each example that prints something else, or ends otherwise than by another program. All of them
+    are run in one folder, as by who reads the page: what one writes the next may read."""
+    with tempfile.TemporaryDirectory() as folder:
+        for command, expected in found:
+            printed, status = run(command, programs, folder)
+            if printed != expected:
+                yield f"{command}\nprints:\n{printed}\nand not:\n{expected}"
+            if status_of and run(command, {**programs, "jp": status_of}, folder)[1] != status:
+                yield f"{command}\nends with another status than by {status_of}: {status}"
 
 
 def main(words):
