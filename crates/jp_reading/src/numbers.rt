@@ -61,7 +61,7 @@ pub fn natural(reader: &mut Reader, cap: u128) -> Result<u128, Stop>
     Ok(number)
 }
 
-// Whether a character is a digit.
+/// Whether a character is one of the ten digits, `0` to `9`.
 #[tactic(auto, unfolding(crate::specs::Numbers::is_digit))]
 fn is_digit(c: char) -> bool
     ensures test { result ≡ is_digit c }

@@ -133,7 +133,7 @@ impl<'t> Reader<'t> {
         }
     }
 
-    // Whether the next character is a blank.
+    /// Whether the next character is a blank; at the end of the text none is.
     fn is_at_blank(&self) -> bool
         ensures { result ≡ passes is_blank (head self.now) }
     {
@@ -262,7 +262,8 @@ impl<'t> Reader<'t> {
     }
 }
 
-// Whether a character is a blank.
+/// Whether a character is a blank: a space, a tab, a line feed or a carriage return (RFC 9535 section
+/// 2.1.1).
 #[tactic(auto, unfolding(crate::specs::Texts::is_blank))]
 fn is_blank(c: char) -> bool
     ensures { result ≡ is_blank c }
@@ -270,7 +271,7 @@ fn is_blank(c: char) -> bool
     matches!(c, ' ' | '\t' | '\n' | '\r')
 }
 
-// The first character of a text.
+/// The first character of a text; None of the empty text.
 fn first_of(text: &str) -> Option<char>
     ensures { result ≡ first_of (chars text.now) }
 {
@@ -280,7 +281,7 @@ fn first_of(text: &str) -> Option<char>
     }
 }
 
-// The first character of a text that is no blank.
+/// The first character of a text that is no blank; None where the text has blanks alone, or nothing.
 fn first_past_blanks(text: &str) -> Option<char>
     ensures { result ≡ after_blank (record { at = 0; rest = chars text.now; found = [] }) }
 {
