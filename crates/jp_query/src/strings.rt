@@ -198,6 +198,7 @@ impl CharacterClass for HexDigit {
 }
 
 impl HexDigit {
+    /// Whether a digit of this value is of the kind; one of a value from 16 on never is.
     fn holds_value(self, value: u32) -> bool
         ensures { result ≡ holds_value self value }
     {
