@@ -35,6 +35,7 @@ impl Look {
         levels: 0,
     };
 
+    /// What is seen of two parts side by side: what either of them needs, and the levels of the deeper one.
     fn beside(self, other: Look) -> Look {
         Look {
             needs: Needs {
@@ -45,6 +46,8 @@ impl Look {
         }
     }
 
+    /// What is seen of an expression, a call or a query that has this part in it: what the part needs, one
+    /// level deeper.
     fn inside(self) -> Look {
         Look {
             needs: self.needs,
@@ -89,6 +92,7 @@ pub fn may_meet(segments: &[Segment]) -> bool {
     false
 }
 
+/// What is seen in the filters of a query, one level deeper for the query itself.
 #[cycle(needs)]
 fn filters_in(query: &Query) -> Look {
     let mut look = Look::NOTHING;
@@ -98,6 +102,7 @@ fn filters_in(query: &Query) -> Look {
     look.inside()
 }
 
+/// What is seen in the filters among the selectors of one segment.
 #[cycle(needs)]
 fn filters_among(selectors: &[Selector]) -> Look {
     let mut look = Look::NOTHING;
@@ -109,6 +114,7 @@ fn filters_among(selectors: &[Selector]) -> Look {
     look
 }
 
+/// What is seen of an expression and of all that stands in it; each expression is a level of its own.
 #[cycle(needs)]
 fn look_at(expr: &Expr) -> Look {
     let look = match expr {
@@ -121,6 +127,7 @@ fn look_at(expr: &Expr) -> Look {
     look.inside()
 }
 
+/// What is seen of the parts of an expression that joins them with `||` or `&&`.
 #[cycle(needs)]
 fn parts_in(parts: &[Expr]) -> Look {
     let mut look = Look::NOTHING;
@@ -139,6 +146,7 @@ fn side_in(side: &Operand) -> Look {
     }
 }
 
+/// What is seen in the arguments of a call, one level deeper for the call itself.
 #[cycle(needs)]
 fn arguments_in(call: &Call) -> Look {
     let mut look = Look::NOTHING;
@@ -153,6 +161,8 @@ fn arguments_in(call: &Call) -> Look {
     look.inside()
 }
 
+/// What is seen of a query in a filter: besides what its own filters need, whether the query itself is to
+/// be answered once, and whether it may come to a value by several ways.
 #[cycle(needs)]
 fn query_in(query: &Query) -> Look {
     let look = filters_in(query);
