@@ -43,6 +43,7 @@ fn code(reader: &mut Reader) -> Result<Category, Stop>
     }
 }
 
+/// The second letter of a category's code; None where the code has one letter, and its `}` stands next.
 fn second_letter(reader: &mut Reader) -> Result<Option<char>, Stop>
     ensures { Gives (λ x. x) result reader.new (second_at reader.old) }
 {
@@ -65,7 +66,7 @@ pub(crate) fn class(reader: &mut Reader) -> Result<CharClass, Stop>
     Ok(CharClass { negated, elements })
 }
 
-// A `^` right after `[` is always the negation.
+/// Whether a class is negated: a `^` right after `[` always negates, and is taken.
 fn negation(reader: &mut Reader) -> bool
     ensures { negation_at reader.old ≡ took result reader.new }
 {
@@ -114,6 +115,7 @@ fn last_element(
     Ok(items)
 }
 
+/// The first element of a class, which may be a `-` that stands for itself.
 fn first_element(reader: &mut Reader) -> Result<ClassElement, Stop>
     ensures { Gives (λ x. x) result reader.new (first_at reader.old) }
 {
@@ -124,7 +126,7 @@ fn first_element(reader: &mut Reader) -> Result<ClassElement, Stop>
     }
 }
 
-// A `-` that stands for itself.
+/// A `-` that stands for itself, as the first or the last element of a class.
 fn hyphen(reader: &mut Reader) -> Result<ClassElement, Stop>
     ensures { Gives (λ x. x) result reader.new (hyphen_at reader.old) }
 {
@@ -145,6 +147,7 @@ fn element(reader: &mut Reader) -> Result<ClassElement, Stop>
     range(reader, first)
 }
 
+/// Whether a category stands next: `\p` or `\P`.
 fn is_at_category(reader: &Reader) -> bool
     ensures { result ≡ is_at_category reader.now }
 {

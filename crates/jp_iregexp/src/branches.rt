@@ -44,6 +44,7 @@ fn branches(reader: &mut Reader, groups: u32) -> Result<Pattern, Stop>
     Ok(Pattern::Either(branches))
 }
 
+/// The branch after the `|` that stands next.
 #[cycle(branches)]
 #[tactic(auto, unfolding(crate::specs::Private::Reading::next_branch_at))]
 fn next_branch(reader: &mut Reader, groups: u32) -> Result<Pattern, Stop>

@@ -98,6 +98,7 @@ impl Category {
         self.stands_for(GeneralCategory::for_char(c))
     }
 
+    /// Whether the code holds the characters of this general category of Unicode.
     #[tactic(auto, unfolding(crate::specs::Category::stands_for))]
     fn stands_for(self, value: GeneralCategory) -> bool
         ensures { result ≡ stands_for self value }
@@ -153,12 +154,14 @@ impl Category {
             .find(|code| code.has_letters(first, second))
     }
 
+    /// Whether the code is written with these letters, where None says that there is no second one.
     fn has_letters(self, first: char, second: Option<char>) -> bool
         ensures { result ≡ is_pair first second (letters self) }
     {
         self.letters() == (first, second)
     }
 
+    /// The letters that write the code; a code of several general categories has one letter alone.
     #[tactic(auto, unfolding(crate::specs::Codes::letters))]
     fn letters(self) -> (char, Option<char>)
         ensures { letters self ≡ pair result.0 result.1 }

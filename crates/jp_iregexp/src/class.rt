@@ -35,6 +35,7 @@ impl CharClass {
 }
 
 impl ClassElement {
+    /// Whether the character is in the range, or of the category; with `negated`, of any other one.
     #[inline(always)]
     #[tactic(auto, unfolding(crate::specs::Class::element_holds))]
     fn holds(&self, c: char) -> bool
@@ -47,6 +48,7 @@ impl ClassElement {
     }
 }
 
+/// Whether one of the elements holds the character, which none does where there are none.
 #[inline(always)]
 fn is_any_holding(elements: &[ClassElement], c: char) -> bool
     ensures { result ≡ list_any (element_holds c) elements.now }

@@ -33,6 +33,7 @@ fn copies(least: u32, most: Option<u32>) -> u32
     most.unwrap_or(least.max(1))
 }
 
+/// How many positions the parts have together. From 4,097 on the answer is 4,097.
 #[cycle(positions)]
 fn positions_of_all(parts: &[Pattern]) -> u64
     ensures { result ≡ min (positions_of (pieces (map tree parts.now))) 4097 }
