@@ -75,6 +75,7 @@ pub(crate) fn steps_of_many(pattern: &Pattern, bytes: u64) -> u64 {
     each
 }
 
+/// How much there is of a pattern that is gone over for a text of this size.
 #[cycle(effort)]
 fn effort_of(pattern: &Pattern, size: TextSize) -> Effort {
     match pattern {
@@ -84,6 +85,7 @@ fn effort_of(pattern: &Pattern, size: TextSize) -> Effort {
     }
 }
 
+/// How much there is of a class: one position, a group for each 16 elements, and one move more than groups.
 fn effort_of_class(class: &CharClass) -> Effort {
     let groups = class.elements.len() as u64 / RANGES_A_GROUP;
     Effort {
@@ -93,6 +95,7 @@ fn effort_of_class(class: &CharClass) -> Effort {
     }
 }
 
+/// How much there is of all parts together, with one group and one move for what they stand in.
 #[cycle(effort)]
 fn effort_of_all(parts: &[Pattern], size: TextSize) -> Effort {
     let mut all = Effort {

@@ -19,6 +19,7 @@ pub(crate) fn has_empty_word(pattern: &Pattern) -> bool
     }
 }
 
+/// Whether the empty word is in the language of one of these branches; without branches it is in none.
 #[cycle(empty_word)]
 fn any_has_empty_word(parts: &[Pattern]) -> bool
     ensures { result ≡ has_empty (branches (map tree parts.now)) }
@@ -31,6 +32,7 @@ fn any_has_empty_word(parts: &[Pattern]) -> bool
     false
 }
 
+/// Whether the empty word is in the language of each of these pieces, and so of their sequence.
 #[cycle(empty_word)]
 fn each_has_empty_word(parts: &[Pattern]) -> bool
     ensures { result ≡ has_empty (pieces (map tree parts.now)) }

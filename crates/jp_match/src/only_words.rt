@@ -61,24 +61,28 @@ impl OnlyWords {
     }
 }
 
+/// Whether the text is one of the words.
 fn is_one_of(words: &[String], text: &str) -> bool
     ensures { result ≡ list_any (λ word. bytes_eq (characters word) (chars text.now)) words.now }
 {
     words.iter().any(|word| is_same(word.as_str(), text))
 }
 
+/// Whether the text is the word, byte for byte.
 fn is_same(word: &str, text: &str) -> bool
     ensures { result ≡ bytes_eq (chars word.now) (chars text.now) }
 {
     word == text
 }
 
+/// Whether one of the words is a part of the text.
 fn has_one_of(text: &str, words: &[String]) -> bool
     ensures { result ≡ list_any (λ word. is_part (characters word) (chars text.now)) words.now }
 {
     words.iter().any(|word| has_part(text, word.as_str()))
 }
 
+/// Whether the word is a part of the text, as the empty word is of each text.
 fn has_part(text: &str, word: &str) -> bool
     ensures { result ≡ is_part (chars word.now) (chars text.now) }
 {

@@ -28,6 +28,8 @@ pub(crate) fn depth(pattern: &Pattern) -> u32 {
     }
 }
 
+/// How deep repeats of more positions than a scan takes stand inside one another in the deepest of these
+/// parts; without parts 0.
 #[cycle(depth)]
 fn greatest_depth(parts: &[Pattern]) -> u32 {
     let mut greatest = 0;
@@ -63,6 +65,8 @@ pub(crate) fn known_parts(
     }
 }
 
+/// What is known of each of these parts, in their order: its rows, or none where its repeats stand less
+/// than two deep.
 #[cycle(relations)]
 fn each_known(
     parts: &[Pattern],
