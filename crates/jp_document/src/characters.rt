@@ -64,6 +64,8 @@ pub(crate) fn hex_value(digit: char) -> u8
     }
 }
 
+/// Whether the character stands for itself in a name: it is no control below U+0020, no `'` and no `\`
+/// (normal-unescaped).
 #[tactic(auto, unfolding(crate::specs::Private::PathRules::is_plain))]
 fn is_plain(c: char) -> bool
     ensures { result ≡ is_plain c }
@@ -71,6 +73,7 @@ fn is_plain(c: char) -> bool
     !(c < ' ' || c == '\'' || c == '\\')
 }
 
+/// Whether the character stands for one after a `\`, as all of normal-escapable but `u` do.
 #[tactic(auto, unfolding(crate::specs::Private::PathRules::is_letter))]
 fn is_letter(c: char) -> bool
     ensures { result ≡ is_letter c }
@@ -78,6 +81,7 @@ fn is_letter(c: char) -> bool
     matches!(c, 'b' | 't' | 'n' | 'f' | 'r' | '\'' | '\\')
 }
 
+/// Whether the digit may follow `\u000`: it ends the number of a control below U+0010 that has no letter.
 #[tactic(auto, unfolding(crate::specs::Private::PathRules::is_low_digit))]
 fn is_low_digit(c: char) -> bool
     ensures { result ≡ is_low_digit c }
@@ -85,6 +89,8 @@ fn is_low_digit(c: char) -> bool
     matches!(c, '0'..='7' | 'b' | 'e' | 'f')
 }
 
+/// Whether the character is a hexadecimal digit as normalized paths have them, in lower case
+/// (normal-HEXDIG).
 #[tactic(auto, unfolding(crate::specs::Private::PathRules::is_hex_digit))]
 fn is_hex_digit(c: char) -> bool
     ensures { result ≡ is_hex_digit c }

@@ -82,6 +82,8 @@ pub fn push_step(out: &mut String, step: Step) -> Result<(), AllocError>
     out.push(']')
 }
 
+/// Appends an index in decimal digits. Where memory runs out, only a beginning of them stands behind the
+/// text.
 fn push_index(out: &mut String, index: u64) -> Result<(), AllocError>
     ensures ok { OnOk result (string_bytes out.new ≡ string_bytes out.old ++ index_text index) }
     ensures kept { IsBegun (string_bytes out.old) (index_text index) (string_bytes out.new) }

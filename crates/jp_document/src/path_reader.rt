@@ -38,6 +38,7 @@ fn is_any_large(steps: &[OwnedStep]) -> bool
     steps.iter().any(is_large)
 }
 
+/// Whether the step is an index above (2^53)-1, as no name is.
 fn is_large(step: &OwnedStep) -> bool
     ensures { result ≡ is_large (owned_step step.now) }
 {

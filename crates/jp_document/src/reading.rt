@@ -89,6 +89,8 @@ fn json_of(alloc: Global, value: Value, fits: &mut bool) -> Result<Json, ValueFa
     }
 }
 
+/// The value of a number that `serde_json` read as a whole one of 64 bits; of any other, `Fraction` with no
+/// steps yet.
 fn json_of_number(alloc: Global, number: Number) -> Result<Json, ValueFault>
     ensures value { IfOk result
         (λ j. value_of_data (number_data (number_view number)) ≡ Some (value_of j)) }
@@ -103,6 +105,8 @@ fn json_of_number(alloc: Global, number: Number) -> Result<Json, ValueFault>
     }
 }
 
+/// The values of a list's items, in their order, or the fault of the first that has no value, with its
+/// index. `fits` is cleared as by `json_of`.
 #[cycle(json_of)]
 fn json_items(alloc: Global, items: Vec<Value>, fits: &mut bool) -> Result<Vec<Json>, ValueFault>
     ensures value { IfOk result
@@ -121,6 +125,8 @@ fn json_items(alloc: Global, items: Vec<Value>, fits: &mut bool) -> Result<Vec<J
     Ok(found)
 }
 
+/// The members of an object in the order of their names, or the fault of the first that has no value, with
+/// its name. `fits` is cleared as by `json_of`.
 #[cycle(json_of)]
 fn json_members(
     alloc: Global,

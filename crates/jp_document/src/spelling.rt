@@ -108,6 +108,7 @@ fn is_plain_long(text: &[u8], quote: u8) -> bool
     text.len() - front < LANES && is_plain_at(text, text.len() - LANES, quote)
 }
 
+/// Appends a text as it is spelled between two of the quotes, without these.
 #[inline(always)]
 fn push_spelled(out: &mut String, text: &str, quote: u8) -> Result<(), AllocError>
     requires { quote < 128 }
@@ -247,6 +248,7 @@ fn push_control(out: &mut String, byte: u8) -> Result<(), AllocError>
     push_two(out, hex_digit_of(byte / 16), hex_digit_of(byte % 16))
 }
 
+/// Appends two ASCII characters.
 fn push_two(out: &mut String, first: u8, second: u8) -> Result<(), AllocError>
     requires first { first < 128 }
     requires second { second < 128 }
@@ -258,6 +260,7 @@ fn push_two(out: &mut String, first: u8, second: u8) -> Result<(), AllocError>
     out.push(char::from(second))
 }
 
+/// The hexadecimal digit of a number below 16, in lower case.
 fn hex_digit_of(n: u8) -> u8
     requires { n < 16 }
     ensures value { result ≡ hex_digit n }
