@@ -90,6 +90,7 @@ fn push_enclosed<'d, V: Lent + 'd>(
     push_mark(out, closing)
 }
 
+/// Appends one ASCII character, such as a bracket or a brace.
 #[inline(always)]
 fn push_mark(out: &mut String, mark: u8) -> Result<(), AllocError>
     requires { mark < 128 }
