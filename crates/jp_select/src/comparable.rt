@@ -288,6 +288,7 @@ fn steps_of_names(left: Step, right: Step) -> u64 {
     }
 }
 
+/// Whether two steps are equal names or equal indexes; a name and an index never are.
 fn same_step(left: Step, right: Step) -> bool
     ensures { result ≡ same_key (step_of left.entry) (step_of right.entry) }
 {
