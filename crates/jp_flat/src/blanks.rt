@@ -18,6 +18,7 @@ pub(crate) fn past_blanks(bytes: &[u8], from: usize) -> usize
     past_blanks_slowly(bytes, from)
 }
 
+/// The first offset from this one on that holds no blank, looked for byte by byte.
 fn past_blanks_slowly(bytes: &[u8], from: usize) -> usize
     requires { from ≤ length bytes.now }
     ensures same { lex between (drop result bytes.now) ≡ lex between (drop from bytes.now) }
@@ -51,6 +52,7 @@ pub(crate) fn ends_whole(bytes: &[u8], at: usize) -> bool
     ends_before(bytes[at])
 }
 
+/// Whether a whole number may end before this byte: a comma, a `}`, a `]` or a blank.
 #[inline(always)]
 fn ends_before(byte: u8) -> bool
     ensures { result ≡ ends_byte byte }

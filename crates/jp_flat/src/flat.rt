@@ -169,6 +169,9 @@ impl Room {
         self.read_by(bytes, true)
     }
 
+    /// The document that these bytes are, in this memory; with `exact` its numbers are exact decimals, else
+    /// each is a whole one of 64 bits. An `Err` gives the memory back and says nothing of the bytes, as
+    /// that of `read`.
     fn read_by(self, bytes: &[u8], exact: bool) -> Result<Flat<'_>, Room>
         ensures { IfOk result (λ f. IsDocumentBy exact bytes.now (document_in f)) }
     {

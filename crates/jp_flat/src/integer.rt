@@ -31,12 +31,16 @@ pub(crate) fn has_minus(bytes: &[u8]) -> bool
     !bytes.is_empty() && bytes[0] == b'-'
 }
 
+/// The number from 0 on that the numeral writes, if it is whole and has at most 64 bits. None says nothing
+/// of it.
 fn from_zero(numeral: &Numeral<'_>) -> Option<u64>
     ensures { IfSome result (λ n. number_from false numeral.now ≡ Some (unsigned n)) }
 {
     numeral.to_u64()
 }
 
+/// The number below 0 that a `-` and the numeral write, if it is whole and at least -(2^63). None says
+/// nothing of them.
 fn below_zero(numeral: &Numeral<'_>) -> Option<i64>
     ensures { IfSome result (λ n. number_from true numeral.now ≡ Some (negative n)) }
 {

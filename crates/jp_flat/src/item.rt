@@ -32,6 +32,7 @@ impl Halves {
         -1 - i128::from(self.number())
     }
 
+    /// The number of 64 bits whose halves these are.
     fn number(self) -> u64
         ensures { result ≡ number_of self }
     {

@@ -110,6 +110,7 @@ fn front_of_short(name: &[u8]) -> u64
     front_by_bytes(name)
 }
 
+/// The first eight bytes as a number, the first of them highest, put together one by one.
 #[inline(always)]
 fn front_by_bytes(name: &[u8]) -> u64
     ensures { result ≡ front_of 8 name.now }

@@ -121,6 +121,8 @@ fn behind_comma(bytes: &[u8], comma: usize) -> Point
     }
 }
 
+/// The end of a list or an object that this byte is, and where the text goes on behind it; None where none
+/// may end.
 #[inline(always)]
 fn closed<'t>(bytes: &'t [u8], from: Point, byte: u8) -> Option<(Token<'t>, Point)>
     requires inside { from.at < length bytes.now }
@@ -251,6 +253,8 @@ fn word_passed(bytes: &[u8], end: usize) -> Option<Point>
     }
 }
 
+/// The number at an offset, and where the text goes on behind it. None where no number stands, and of one
+/// with a fraction or an exponent unless numbers are read exactly.
 #[inline(always)]
 fn number<'t, const EXACT: bool>(bytes: &'t [u8], from: Point) -> Option<(Token<'t>, Point)>
     requires inside { from.at < length bytes.now }
@@ -306,6 +310,8 @@ fn numeral<'t>(bytes: &'t [u8], from: Point, whole: usize) -> Option<(Token<'t>,
     Some((Token::Numeral(from.at, &bytes[from.at..end]), next))
 }
 
+/// The offset behind the fraction that begins here, or this one where no point stands; None where no digit
+/// follows the point (RFC 8259 section 6).
 fn past_fraction(bytes: &[u8], at: usize) -> Option<usize>
     requires { at ≤ length bytes.now }
     ensures after { IfSome result (λ e. after_fraction (drop at bytes.now) ≡ Some (drop e bytes.now)) }
@@ -317,6 +323,8 @@ fn past_fraction(bytes: &[u8], at: usize) -> Option<usize>
     Some(at)
 }
 
+/// The offset behind the exponent that begins here, or this one where none does; None where it has no
+/// digits.
 fn past_exponent(bytes: &[u8], at: usize) -> Option<usize>
     requires { at ≤ length bytes.now }
     ensures after { IfSome result (λ e. after_exponent (drop at bytes.now) ≡ Some (drop e bytes.now)) }
@@ -329,6 +337,7 @@ fn past_exponent(bytes: &[u8], at: usize) -> Option<usize>
     Some(at)
 }
 
+/// The offset behind the sign of an exponent, or this one where it has none.
 fn past_sign(bytes: &[u8], at: usize) -> usize
     requires { at ≤ length bytes.now }
     ensures after { after_sign (drop at bytes.now) ≡ drop result bytes.now }
@@ -341,6 +350,7 @@ fn past_sign(bytes: &[u8], at: usize) -> usize
     }
 }
 
+/// The offset behind one digit or more; None where none stands here.
 fn past_digits(bytes: &[u8], at: usize) -> Option<usize>
     requires { at ≤ length bytes.now }
     ensures after { IfSome result (λ e. after_digits (drop at bytes.now) ≡ Some (drop e bytes.now)) }
@@ -350,6 +360,7 @@ fn past_digits(bytes: &[u8], at: usize) -> Option<usize>
     if at < end { Some(end) } else { None }
 }
 
+/// The offset behind a minus sign, or this one where none stands here.
 #[inline(always)]
 fn past_minus(bytes: &[u8], from: usize) -> usize
     requires { from < length bytes.now }

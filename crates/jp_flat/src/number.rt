@@ -44,6 +44,7 @@ pub(crate) fn whole_item(number: i128) -> Option<Item>
     }
 }
 
+/// A number as its high and its low 32 bits.
 #[inline(always)]
 fn halves(number: u64) -> Halves
     ensures { number_of result ≡ number }

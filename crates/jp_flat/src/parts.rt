@@ -57,6 +57,7 @@ pub(crate) fn members<'d>(tables: &'d Tables<'_>, span: Span) -> Option<&'d [Nam
     piece(&tables.members, span.first as usize, span.count as usize)
 }
 
+/// The entry at this position; None where there are not so many.
 fn copy_at<T: Copy>(all: &[T], position: usize) -> Option<T>
     ensures entry { result ≡ slice_get all.now position }
     ensures more { OnSome result (position < usize.MAX) }

@@ -31,6 +31,7 @@ pub(crate) struct Pending {
 }
 
 impl Pending {
+    /// Nothing is being read yet. It takes no memory.
     pub(crate) fn new(alloc: Global) -> Pending
         ensures items { result.items.items ≡ [] }
         ensures members { result.members.items ≡ [] }

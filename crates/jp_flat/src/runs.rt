@@ -63,6 +63,7 @@ pub(crate) fn plain_end(bytes: &[u8], from: usize) -> usize
     plain_end_slowly(bytes, at)
 }
 
+/// The quotes, backslashes and controls among the bytes of a block, a bit for each byte.
 #[inline(always)]
 fn stops(block: u8x16) -> u64
     ensures { result ≡ mask_l (map is_stop block) }
@@ -72,6 +73,7 @@ fn stops(block: u8x16) -> u64
         | block.simd_lt(u8x16::splat(0x20))).to_bitmask()
 }
 
+/// The first quote, backslash or control from an offset on, or the end, looked for byte by byte.
 fn plain_end_slowly(bytes: &[u8], from: usize) -> usize
     requires { from ≤ length bytes.now }
     ensures { result ≡ from + prefix_len is_plain (drop from bytes.now) }
