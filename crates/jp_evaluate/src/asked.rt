@@ -53,6 +53,7 @@ fn name_anywhere(segments: &[Segment]) -> Option<&str>
     only_name(&first.selectors)
 }
 
+/// The name that these selectors select alone; None where there is not one selector, or the one is no name.
 fn only_name(selectors: &[Selector]) -> Option<&str>
     ensures { option_map (λ s. s.now) result
         ≡ only_name (selector_trees (map selector_of selectors.now)) }
@@ -76,6 +77,8 @@ fn names_of_items(alloc: Global, segments: &[Segment]) -> Result<Option<Vec<Stri
     }
 }
 
+/// Puts the names of the members that the segments ask for of a list's items among others; whether these
+/// are told.
 fn push_items(segments: &[Segment], names: &mut Vec<String>) -> Result<bool, AllocError>
     ensures { IfOk result (Collects names.old.items names.new.items
         (λ p. asks_items p (segment_trees (map segment_of segments.now)))) }
@@ -92,6 +95,8 @@ fn push_items(segments: &[Segment], names: &mut Vec<String>) -> Result<bool, All
     push_members(rest, names)
 }
 
+/// Puts the names of the members that the selectors ask for of the items among others; whether these are
+/// told.
 fn push_selectors(selectors: &[Selector], names: &mut Vec<String>) -> Result<bool, AllocError>
     ensures { IfOk result (Collects names.old.items names.new.items
         (λ p. asks_selectors p (selector_trees (map selector_of selectors.now)))) }

@@ -66,6 +66,7 @@ fn lent_size<'a, V: Lent + 'a>(value: V) -> Option<usize>
     }
 }
 
+/// How many characters (Unicode scalar values) the text has.
 fn char_count(text: &str) -> usize
     ensures { result ≡ length (chars text.now) }
 {

@@ -51,6 +51,8 @@ enum Segments<'q> {
 }
 
 impl<'q> Segments<'q> {
+    /// The segments of a query whose walk has not begun: its own, unless absolute queries in its filters
+    /// are to be answered first.
     fn of(query: &'q Query, needs: Needs) -> Segments<'q>
         ensures { AreOf result query.now }
     {
@@ -74,6 +76,7 @@ impl<'q> Segments<'q> {
         }
     }
 
+    /// Those that the walk follows; as long as absolute queries are still to be answered, the query's own.
     fn followed(&self) -> &[Segment]
         ensures { result.now ≡ followed self.now }
     {

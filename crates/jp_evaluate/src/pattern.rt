@@ -38,6 +38,7 @@ impl Model for ReadText {
 impl ReadText {
     ghost use Rattle.jp_evaluate.specs.Patterns.{is_short};
 
+    /// Reads a text as a pattern, and keeps a copy of it. The only error is that memory ran out.
     fn new(alloc: Global, text: &str) -> Result<ReadText, AllocError>
         ensures { IfOk result (λ r. r ≡ text.now) }
     {
@@ -46,6 +47,7 @@ impl ReadText {
         Ok(ReadText { text, pattern })
     }
 
+    /// Whether this is the text that was read.
     fn is(&self, text: &str) -> bool
         ensures { IsTrue result ↔ (self.now ≡ text.now) }
     {
@@ -59,6 +61,7 @@ impl ReadText {
         self.text.len() <= MOST_BYTES_HANDED_ON
     }
 
+    /// The pattern that the text spells, None where it does not conform.
     fn pattern(&self) -> Option<&CountedPattern>
         ensures { pattern_of (chars self.now) ≡ option_map (λ p. tree p.now.pattern) result }
     {

@@ -41,6 +41,7 @@ impl<'q, V: Selectable + 'q, M: Matching> Evaluation<'q, V, M> {
         })
     }
 
+    /// The segments of a query with the answers in the filters among their selectors, in their order.
     #[cycle(settled)]
     fn settled_segments(
         &self,
@@ -59,6 +60,7 @@ impl<'q, V: Selectable + 'q, M: Matching> Evaluation<'q, V, M> {
         Ok(settled)
     }
 
+    /// A segment with the answers in the filters among its selectors.
     #[cycle(settled)]
     fn settled_segment(
         &self,
@@ -76,6 +78,7 @@ impl<'q, V: Selectable + 'q, M: Matching> Evaluation<'q, V, M> {
         })
     }
 
+    /// The selectors of a segment with the answers in the filters among them, in their order.
     #[cycle(settled)]
     fn settled_selectors(
         &self,
@@ -94,6 +97,7 @@ impl<'q, V: Selectable + 'q, M: Matching> Evaluation<'q, V, M> {
         Ok(settled)
     }
 
+    /// A copy of a selector, of a filter with the answers in its expression.
     #[cycle(settled)]
     fn settled_selector(
         &self,

@@ -280,6 +280,7 @@ fn push_children<'d, V: Selectable + 'd>(
 }
 
 impl Ways {
+    /// These ways and no others. It takes no memory.
     fn from(alloc: Global, way: Way) -> Ways
         ensures { all_ways result ≡ way ∷ [] }
     {
@@ -318,6 +319,7 @@ impl Ways {
 }
 
 impl Way {
+    /// How many of them are by all of so many segments: all, or none where they are by fewer.
     fn ended(self, segments: usize) -> u64
         ensures { result ≡ ended segments self }
     {

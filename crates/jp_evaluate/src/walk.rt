@@ -358,6 +358,7 @@ impl<'d, V: Selectable + 'd> Walk<'d, V> {
     }
 }
 
+/// Appends a step to a location; where there is none, the location stays.
 fn push_step<'d>(location: &mut Vec<Step<'d>>, step: Option<Step<'d>>) -> Result<(), AllocError>
     ensures { OnOk result
         (map step_of location.new.items ≡ map step_of location.old.items ++ steps_of step.entry) }

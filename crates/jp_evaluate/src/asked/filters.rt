@@ -11,6 +11,8 @@ use crate::asked::members::push_members;
 use jp_tree::{Argument, Call, Expr, Operand, Query, Subject};
 use std::alloc::AllocError;
 
+/// Puts the names of the members that an expression asks for of the tested value among others; whether
+/// these are all.
 #[cycle(asked)]
 pub(crate) fn push_expr(test: &Expr, names: &mut Vec<String>) -> Result<bool, AllocError>
     ensures { IfOk result (Collects names.old.items names.new.items
@@ -31,6 +33,7 @@ pub(crate) fn push_expr(test: &Expr, names: &mut Vec<String>) -> Result<bool, Al
     }
 }
 
+/// Puts the names that the parts of an expression ask for among others; whether these are all.
 #[cycle(asked)]
 fn push_parts(parts: &[Expr], names: &mut Vec<String>) -> Result<bool, AllocError>
     ensures { IfOk result (Collects names.old.items names.new.items
@@ -44,6 +47,8 @@ fn push_parts(parts: &[Expr], names: &mut Vec<String>) -> Result<bool, AllocErro
     Ok(true)
 }
 
+/// Puts the names that a side of a comparison asks for among others; whether these are all, as of a
+/// literal, which asks for none.
 #[cycle(asked)]
 fn push_side(side: &Operand, names: &mut Vec<String>) -> Result<bool, AllocError>
     ensures { IfOk result (Collects names.old.items names.new.items
@@ -56,6 +61,7 @@ fn push_side(side: &Operand, names: &mut Vec<String>) -> Result<bool, AllocError
     }
 }
 
+/// Puts the names that the arguments of a call ask for among others; whether these are all.
 #[cycle(asked)]
 fn push_call(call: &Call, names: &mut Vec<String>) -> Result<bool, AllocError>
     ensures { IfOk result (Collects names.old.items names.new.items
@@ -69,6 +75,8 @@ fn push_call(call: &Call, names: &mut Vec<String>) -> Result<bool, AllocError>
     Ok(true)
 }
 
+/// Puts the names that an argument of a call asks for among others; whether these are all, as of a literal,
+/// which asks for none.
 #[cycle(asked)]
 fn push_argument(argument: &Argument, names: &mut Vec<String>) -> Result<bool, AllocError>
     ensures { IfOk result (Collects names.old.items names.new.items

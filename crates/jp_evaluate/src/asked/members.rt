@@ -27,6 +27,8 @@ pub(crate) fn push_members(
     push_names(&first.selectors, names)
 }
 
+/// Puts the names that the selectors select among others; false where one of them is no name, or there is
+/// no room.
 fn push_names(selectors: &[Selector], names: &mut Vec<String>) -> Result<bool, AllocError>
     ensures { IfOk result (Collects names.old.items names.new.items
         (λ p. asks_names p (selector_trees (map selector_of selectors.now)))) }
@@ -39,6 +41,7 @@ fn push_names(selectors: &[Selector], names: &mut Vec<String>) -> Result<bool, A
     Ok(true)
 }
 
+/// Puts the name that a selector selects among others; false where it is no name, or there is no room.
 fn push_name_of(selector: &Selector, names: &mut Vec<String>) -> Result<bool, AllocError>
     ensures { IfOk result (Collects names.old.items names.new.items
         (λ p. asks_name p (selector_of selector.now))) }
@@ -49,6 +52,7 @@ fn push_name_of(selector: &Selector, names: &mut Vec<String>) -> Result<bool, Al
     }
 }
 
+/// The name that a selector selects; None of a selector of any other kind.
 pub(crate) fn name_of(selector: &Selector) -> Option<&str>
     ensures { option_map (λ s. s.now) result ≡ name_selected (selector_of selector.now) }
 {
@@ -58,6 +62,7 @@ pub(crate) fn name_of(selector: &Selector) -> Option<&str>
     }
 }
 
+/// Whether none of the segments has a filter among its selectors.
 pub(crate) fn has_no_filter(segments: &[Segment]) -> bool
     ensures { result ≡ has_no_filter (segment_trees (map segment_of segments.now)) }
 {
@@ -69,6 +74,7 @@ pub(crate) fn has_no_filter(segments: &[Segment]) -> bool
     true
 }
 
+/// Whether none of the selectors is a filter.
 fn are_unfiltered(selectors: &[Selector]) -> bool
     ensures { result ≡ are_unfiltered (selector_trees (map selector_of selectors.now)) }
 {
@@ -80,6 +86,7 @@ fn are_unfiltered(selectors: &[Selector]) -> bool
     true
 }
 
+/// Whether the selector is no filter.
 fn is_unfiltered(selector: &Selector) -> bool
     ensures { result ≡ is_unfiltered (selector_of selector.now) }
 {

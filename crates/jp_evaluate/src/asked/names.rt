@@ -23,6 +23,7 @@ pub(crate) fn push_name(name: &str, names: &mut Vec<String>) -> Result<bool, All
     Ok(true)
 }
 
+/// Whether the name is one of these.
 fn is_among(names: &[String], name: &str) -> bool
     ensures { result ≡ true → AskedOf names.now (λ p. p name.now) }
 {

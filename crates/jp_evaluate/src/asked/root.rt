@@ -74,6 +74,8 @@ fn names_of_test(alloc: Global, test: &Expr) -> Result<Option<Vec<String>>, Allo
     }
 }
 
+/// Puts the names of the members that a query asks for of the document itself among others; whether these
+/// are told.
 fn push_root(query: &Checked, names: &mut Vec<String>) -> Result<bool, AllocError>
     ensures { IfOk result (Collects names.old.items names.new.items
         (λ p. asks_root p (query_of query.now.query))) }

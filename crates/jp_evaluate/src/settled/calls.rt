@@ -30,6 +30,7 @@ impl<'q, V: Selectable + 'q, M: Matching> Evaluation<'q, V, M> {
         self.settled_value(work, call)
     }
 
+    /// The arguments of a call with the answers in their places, in their order.
     #[cycle(settled)]
     fn settled_arguments(
         &self,
@@ -49,6 +50,8 @@ impl<'q, V: Selectable + 'q, M: Matching> Evaluation<'q, V, M> {
         Ok(settled)
     }
 
+    /// An argument with the answers in its query, call or expression. A call of `count` that answers the
+    /// same at each value gives way to the number that it answers.
     #[cycle(settled)]
     fn settled_argument(
         &self,

@@ -9,6 +9,7 @@ use jp_document::Step;
 use jp_tree::{FunctionName, Literal, Numeral, Query, Segment, Selector};
 use std::alloc::{AllocError, Global};
 
+/// A copy of a literal, with a text of its own. The only error is that memory ran out.
 #[inline(never)]
 pub(super) fn copied_literal(alloc: Global, literal: &Literal) -> Result<Literal, AllocError>
     ensures { IfOk result (λ l. literal_of l ≡ literal_of literal.now) }
@@ -22,6 +23,7 @@ pub(super) fn copied_literal(alloc: Global, literal: &Literal) -> Result<Literal
     }
 }
 
+/// A copy of a function's name. The only error is that memory ran out.
 #[inline(never)]
 pub(super) fn copied_name(alloc: Global, name: &FunctionName) -> Result<FunctionName, AllocError>
     ensures { IfOk result (λ n. string_bytes n ≡ string_bytes name.now) }

@@ -43,6 +43,7 @@ impl<'q, V: Selectable + 'q, M: Matching> Evaluation<'q, V, M> {
         }
     }
 
+    /// The parts of an expression, each true of the values that it was true of, in their order.
     #[cycle(settled)]
     fn settled_parts(&self, work: &mut Work, parts: &[Expr]) -> Result<Vec<Expr>, EvaluationFault>
         ensures gives { IfOk result (λ v. exprs (map expr_of v.items)
@@ -57,6 +58,8 @@ impl<'q, V: Selectable + 'q, M: Matching> Evaluation<'q, V, M> {
         Ok(settled)
     }
 
+    /// A side of a comparison with the answers in its query or call. A call of `count` that answers the
+    /// same at each value gives way to the number that it answers.
     #[cycle(settled)]
     fn settled_operand(
         &self,
