@@ -92,6 +92,8 @@ fn is_grouped(outer: u8, part: &Expr) -> bool
     precedence(part) <= outer
 }
 
+/// The precedence of an expression: from the lowest, that of `||`, by those of `&&`, comparisons and `!` to
+/// that of a test, which needs no parentheses.
 fn precedence(expr: &Expr) -> u8
     ensures { result ≡ precedence (expr_of expr.now) }
 {

@@ -34,6 +34,7 @@ pub(crate) fn write_slice(out: &mut Writer, slice: &Slice) -> Result<(), AllocEr
     write_step(out, slice.step)
 }
 
+/// Writes the start or the end of a slice, and nothing where it is omitted.
 fn write_bound(out: &mut Writer, bound: Option<Numeral>) -> Result<(), AllocError>
     ensures { OnOk result (out.new ≡ out.old ++ bound_text bound) }
 {
@@ -43,6 +44,7 @@ fn write_bound(out: &mut Writer, bound: Option<Numeral>) -> Result<(), AllocErro
     }
 }
 
+/// Writes a colon and the step of a slice, and nothing where the step is 1.
 fn write_step(out: &mut Writer, step: Numeral) -> Result<(), AllocError>
     ensures { OnOk result (out.new ≡ out.old ++ step_text step) }
 {
