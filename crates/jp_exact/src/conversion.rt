@@ -46,6 +46,7 @@ pub(crate) fn json_of(alloc: Global, value: &Value<'_>, fits: &mut bool) -> Resu
     }
 }
 
+/// The value of a number's text, or `OutOfRange` with no steps yet where it can't be held.
 fn json_of_number(alloc: Global, text: &str) -> Result<Json, RangeFault>
     ensures value { IfOk result (λ j. value_of j ≡ number_value (value_of_text text.now)) }
     ensures held { IfOk result (λ j. everywhere is_held (value_of j) ≡ true) }
@@ -62,6 +63,8 @@ fn json_of_number(alloc: Global, text: &str) -> Result<Json, RangeFault>
     }
 }
 
+/// The values of a list's items, in their order, or the fault of the first that can't be held, with its
+/// index. `fits` is cleared as by `json_of`.
 #[cycle(json_of)]
 fn json_items(alloc: Global, items: &[Value<'_>], fits: &mut bool) -> Result<Vec<Json>, RangeFault>
     ensures value { IfOk result
@@ -82,6 +85,8 @@ fn json_items(alloc: Global, items: &[Value<'_>], fits: &mut bool) -> Result<Vec
     Ok(found)
 }
 
+/// The members of an object in the order of their names, the last of each name, or the fault of the first
+/// that can't be held, with its name. `fits` is cleared as by `json_of`.
 #[cycle(json_of)]
 fn json_members<'t>(
     alloc: Global,
