@@ -92,6 +92,7 @@ fn quoted<'t>(alloc: Global, before: &'t [char], text: &'t [char], after: &'t [c
     joined(alloc, &[before, mark, text, mark, after])
 }
 
+/// Writes a piece of a mended text.
 fn write_piece(out: &mut Writer, piece: Piece<'_>) -> Result<(), AllocError>
     ensures { OnOk result (out.new ≡ out.old ++ piece_text piece.entry) }
 {
@@ -101,6 +102,7 @@ fn write_piece(out: &mut Writer, piece: Piece<'_>) -> Result<(), AllocError>
     }
 }
 
+/// Writes these characters as they are.
 fn write_characters(out: &mut Writer, characters: &[char]) -> Result<(), AllocError>
     ensures { OnOk result (out.new ≡ out.old ++ characters.now) }
 {

@@ -12,6 +12,7 @@ use crate::reason::Reason;
 use jp_canon::Writer;
 use std::alloc::{AllocError, Global};
 
+/// The text mended at its end; None for the reasons of other files, and where no mend is plain.
 pub(super) fn mended(alloc: Global, reason: Reason, Cut { front, rest }: Cut<'_>) -> Mended {
     match reason {
         Reason::BlankLast => joined(alloc, &[Kept(split_suffix(front, Class::Unseen).0)]),
@@ -42,6 +43,7 @@ struct Open {
 }
 
 impl Open {
+    /// What is open at the end of this text.
     fn at_end(alloc: Global, text: &[char]) -> Result<Open, AllocError> {
         let mut open = Open {
             closing: Vec::new(alloc),
@@ -55,6 +57,7 @@ impl Open {
         Ok(open)
     }
 
+    /// Goes on past one more character of the text.
     fn pass(&mut self, c: char) -> Result<(), AllocError> {
         self.quoted_len = self.quoted_len.saturating_add(1);
         match self.mark {
@@ -67,6 +70,8 @@ impl Open {
         Ok(())
     }
 
+    /// Goes on past a character outside of quotation marks, which may open or close a bracket or a
+    /// parenthesis, or begin a text.
     fn pass_sign(&mut self, c: char) -> Result<(), AllocError> {
         match c {
             '[' => self.closing.push(']')?,

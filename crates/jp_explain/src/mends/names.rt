@@ -10,6 +10,8 @@ use crate::marks::{
 use crate::reason::Reason;
 use std::alloc::Global;
 
+/// The text with its dots, brackets and names mended; None for the reasons of other files, and where no
+/// mend is plain.
 pub(super) fn mended(alloc: Global, reason: Reason, cut: Cut<'_>) -> Mended {
     let Cut { front, rest } = cut;
     match reason {

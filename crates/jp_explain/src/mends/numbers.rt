@@ -7,6 +7,7 @@ use crate::marks::{begins, begins_as, begins_in, ends, without_first, without_la
 use crate::reason::Reason;
 use std::alloc::Global;
 
+/// The text with its numbers mended; None for the reasons of other files, and where no mend is plain.
 pub(super) fn mended(alloc: Global, reason: Reason, cut: Cut<'_>) -> Mended {
     let Cut { front, rest } = cut;
     match reason {

@@ -18,6 +18,8 @@ struct Operation<'t> {
     operand: &'t [char],
 }
 
+/// The text with an operator of another language mended; None for the reasons of other files, and where no
+/// mend is plain.
 pub(super) fn mended(alloc: Global, reason: Reason, cut: Cut<'_>) -> Mended {
     let word = name_at(cut.rest);
     let (before, side) = cut_side(cut.front);

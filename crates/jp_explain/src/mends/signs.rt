@@ -11,6 +11,7 @@ use crate::marks::{
 use crate::reason::Reason;
 use std::alloc::Global;
 
+/// The text with its signs mended; None for the reasons of other files, and where no mend is plain.
 pub(super) fn mended(alloc: Global, reason: Reason, cut: Cut<'_>) -> Mended {
     let Cut { front, rest } = cut;
     let after = without_first(rest);

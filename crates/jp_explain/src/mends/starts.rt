@@ -8,6 +8,8 @@ use crate::marks::{begins, begins_as, ends, is, without_first, without_last};
 use crate::reason::Reason;
 use std::alloc::Global;
 
+/// The text mended at its start or at a slash; None for the reasons of other files, and where no mend is
+/// plain.
 pub(super) fn mended(alloc: Global, reason: Reason, cut: Cut<'_>) -> Mended {
     let rest = cut.rest;
     match reason {
@@ -47,6 +49,7 @@ fn dot(alloc: Global, rest: &[char]) -> Mended {
     }
 }
 
+/// The text without the brace that it begins with, and without a `}` that it ends with.
 fn without_braces(text: &[char]) -> &[char] {
     match text {
         [_, inner @ .., '}'] => inner,
@@ -54,6 +57,7 @@ fn without_braces(text: &[char]) -> &[char] {
     }
 }
 
+/// The text without the quotation marks around it; None where it does not end with one.
 fn without_quotes(alloc: Global, text: &[char]) -> Mended {
     match text {
         [first, inner @ .., last] if *first == *last || Class::Quote.holds(*last) => {

@@ -15,6 +15,7 @@ use crate::marks::{
 use crate::reason::Reason;
 use std::alloc::Global;
 
+/// The text with its words mended; None for the reasons of other files, and where no mend is plain.
 pub(super) fn mended(alloc: Global, reason: Reason, cut: Cut<'_>) -> Mended {
     let Cut { front, rest } = cut;
     match reason {
@@ -66,6 +67,7 @@ fn last_item<'t>(alloc: Global, front: &'t [char], rest: &'t [char]) -> Mended
     joined(alloc, &[Kept(front), New("-"), Kept(digits), Kept(after)])
 }
 
+/// The text with a literal of another language, such as `True`, `None` or `nil`, as queries write it.
 fn literal(alloc: Global, Cut { front, rest }: Cut<'_>) -> Mended {
     let (name, after) = split_prefix(rest, Class::Name);
     match name {
