@@ -8,6 +8,7 @@ ghost use Rattle.jp_json.specs.Private.Fronts.{is_line_stop, is_plain};
 
 use std::simd::prelude::*;
 
+/// The quotes, backslashes and controls among the bytes of a block, a bit for each byte.
 #[inline(always)]
 fn string_stops(block: u8x16) -> u64
     ensures { result ≡ mask_l (map is_stop block) }
@@ -17,6 +18,7 @@ fn string_stops(block: u8x16) -> u64
         | block.simd_lt(u8x16::splat(0x20))).to_bitmask()
 }
 
+/// The line feeds, and the bytes that are not ASCII, among those of a block, a bit for each byte.
 #[inline(always)]
 fn line_stops(block: u8x16) -> u64
     ensures { result ≡ mask_l (map is_line_stop block) }

@@ -62,6 +62,7 @@ fn is_e(c: char) -> bool
     matches!(c, 'e' | 'E')
 }
 
+/// Whether the character may be the sign of an exponent (section 6).
 fn is_sign(c: char) -> bool
     ensures { result ≡ is_sign c }
 {
@@ -78,6 +79,8 @@ pub(crate) fn first_in(level: Level) -> State
     }
 }
 
+/// What a comma after a value does: a value comes next in an array, a name in an object, and outside of
+/// both none may stand.
 fn after_comma(top: Option<Level>) -> Step
     ensures { result ≡ after_comma top }
 {
@@ -88,6 +91,7 @@ fn after_comma(top: Option<Level>) -> Step
     }
 }
 
+/// What the bracket that closes such a level does, where `top` is the innermost open.
 fn closing(level: Level, top: Option<Level>) -> Step
     ensures { result ≡ closing level top }
 {
@@ -97,6 +101,7 @@ fn closing(level: Level, top: Option<Level>) -> Step
     }
 }
 
+/// What a character does where a value has to begin (section 3).
 #[tactic(auto, unfolding(jp_reading::specs::Texts::is_blank))]
 fn begin_value(c: char) -> Step
     ensures { result ≡ begin_value c }
@@ -116,6 +121,7 @@ fn begin_value(c: char) -> Step
     }
 }
 
+/// What a character does where a member's name has to begin (section 4).
 #[tactic(auto, unfolding(jp_reading::specs::Texts::is_blank))]
 fn begin_name(c: char) -> Step
     ensures { result ≡ begin_name c }
@@ -127,6 +133,7 @@ fn begin_name(c: char) -> Step
     }
 }
 
+/// What a character does after a value, where `top` is the innermost level open.
 #[tactic(auto, unfolding(jp_reading::specs::Texts::is_blank))]
 fn after_value(top: Option<Level>, c: char) -> Step
     ensures { result ≡ after_value top c }
@@ -140,6 +147,7 @@ fn after_value(top: Option<Level>, c: char) -> Step
     }
 }
 
+/// What comes after a string: a colon after a member's name, else a comma or an end.
 pub(crate) fn past_text(role: Role) -> State
     ensures { result ≡ past_text role }
 {
@@ -149,6 +157,7 @@ pub(crate) fn past_text(role: Role) -> State
     }
 }
 
+/// What a character does in a string (section 7).
 fn in_text(role: Role, c: char) -> Step
     ensures { result ≡ in_text role c }
 {
@@ -160,6 +169,7 @@ fn in_text(role: Role, c: char) -> Step
     }
 }
 
+/// What a character does right after a backslash (section 7).
 fn in_escape(role: Role, c: char) -> Step
     ensures { result ≡ in_escape role c }
 {
@@ -170,6 +180,7 @@ fn in_escape(role: Role, c: char) -> Step
     }
 }
 
+/// What comes after a hexadecimal digit of an escape, where so many were still wanted (section 7).
 fn past_hex(role: Role, wanted: Wanted) -> State
     ensures { result ≡ past_hex role wanted }
 {
@@ -181,6 +192,7 @@ fn past_hex(role: Role, wanted: Wanted) -> State
     }
 }
 
+/// The first of the letters that are still wanted.
 fn letter(letters: Letters) -> char
     ensures { result ≡ letter letters }
 {
@@ -194,6 +206,7 @@ fn letter(letters: Letters) -> char
     }
 }
 
+/// What comes after the first of the letters that are still wanted.
 fn past_letter(letters: Letters) -> State
     ensures { result ≡ past_letter letters }
 {
@@ -219,6 +232,7 @@ fn exponent_or_after(top: Option<Level>, c: char) -> Step
     }
 }
 
+/// What a character does after that part of a number (section 6).
 fn in_number(part: Part, top: Option<Level>, c: char) -> Step
     ensures { result ≡ in_number part top c }
 {

@@ -22,12 +22,14 @@ fn is_word(c: char) -> bool
     is_digit(c) || matches!(c, 'A'..='Z' | 'a'..='z' | '_' | '$')
 }
 
+/// Whether other formats begin a comment with the character, as JSON never does.
 fn is_comment(c: char) -> bool
     ensures { result ≡ is_comment c }
 {
     matches!(c, '/' | '#')
 }
 
+/// For a `]` that stands where a value has to: behind a comma of an array, or where no array is innermost.
 fn bracket_reason(top: Option<Level>) -> JsonReason
     ensures { result ≡ bracket_reason top }
 {
@@ -37,6 +39,7 @@ fn bracket_reason(top: Option<Level>) -> JsonReason
     }
 }
 
+/// For a `}` that stands where a value has to: behind a member's colon, or where no object is innermost.
 fn brace_reason(top: Option<Level>) -> JsonReason
     ensures { result ≡ brace_reason top }
 {
@@ -46,6 +49,7 @@ fn brace_reason(top: Option<Level>) -> JsonReason
     }
 }
 
+/// For U+FEFF that stands where a value has to: a byte order mark, if no level is open.
 fn mark_reason(top: Option<Level>) -> JsonReason
     ensures { result ≡ mark_reason top }
 {
@@ -55,6 +59,7 @@ fn mark_reason(top: Option<Level>) -> JsonReason
     }
 }
 
+/// For U+001E that stands where a value has to: a record separator, if no level is open.
 fn separator_reason(top: Option<Level>) -> JsonReason
     ensures { result ≡ separator_reason top }
 {
@@ -181,6 +186,7 @@ fn unexpected_reason(top: Option<Level>, state: State, c: char) -> JsonReason
     }
 }
 
+/// For an end that comes between the parts of an array or an object, or before any value.
 fn open_reason(top: Option<Level>) -> JsonReason
     ensures { result ≡ open_reason top }
 {
