@@ -218,6 +218,7 @@ fn begins_value(byte: u8) -> bool
         || byte == b'n'
 }
 
+/// Whether the byte is one of the digits `0` to `9`.
 #[tactic(auto, unfolding(jp_reading::specs::Numbers::is_digit))]
 fn is_digit(byte: u8) -> bool
     ensures { result ≡ is_digit byte }
