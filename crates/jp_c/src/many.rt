@@ -128,6 +128,8 @@ struct Subject<'d> {
 }
 
 impl<'d> Subject<'d> {
+    /// Reads what the plan asks for of the document, once for all of the queries. Where the document goes
+    /// wrong, its place is looked for too.
     fn read(
         alloc: Global,
         document: &'d [u8],
