@@ -22,6 +22,8 @@ use std::io::{Error, ErrorKind};
 use std::process::ExitCode;
 use std::{env, io};
 
+/// Does the task; the exit code is 0, 4 where memory ran out, and 5 where a read or a write failed
+/// otherwise.
 fn main(rt: HostRuntime) -> ExitCode {
     match run(&rt) {
         Ok(()) => ExitCode::from(0),
@@ -33,6 +35,8 @@ fn main(rt: HostRuntime) -> ExitCode {
     }
 }
 
+/// Does the task that the last word names with each line of the standard input, `paths` where it names
+/// none.
 fn run(rt: &HostRuntime) -> io::Result<()> {
     let alloc = rt.alloc();
     let words: Vec<String> = env::args(rt)?.collect(alloc)?;
