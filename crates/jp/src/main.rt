@@ -8,6 +8,7 @@ use jp_command::{Device, buffered, exit_status, run_line, unbuffered};
 use std::process::ExitCode;
 use std::{env, fs, io};
 
+/// Runs the program with the process's words and streams; its status is the exit code.
 fn main(rt: HostRuntime) -> ExitCode {
     let mut faults = Device::new(rt.stderr());
     ExitCode::from(exit_status(rt.alloc(), run(&rt), &mut faults))
