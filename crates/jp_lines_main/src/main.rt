@@ -9,6 +9,7 @@ use jp_lines::{Opener, run_program};
 use std::process::ExitCode;
 use std::{env, io};
 
+/// Runs the program with the process's words, files and streams; its status is the exit code.
 fn main(rt: HostRuntime) -> ExitCode {
     let mut faults = Device::new(rt.stderr());
     ExitCode::from(exit_status(rt.alloc(), run(&rt), &mut faults))
