@@ -90,6 +90,8 @@ fn pair_holds(class: &CharClass, c: char) -> bool
     }
 }
 
+/// Whether the character is one from the first to the last, both included; none is where the last is below
+/// the first.
 fn is_between(first: char, last: char, c: char) -> bool
     ensures { result ≡ (nat_le first c && nat_le c last) }
 {
