@@ -50,8 +50,8 @@ impl<'q, V: Selectable + 'q, M: Matching> Evaluation<'q, V, M> {
         Ok(settled)
     }
 
-    /// An argument with the answers in its query, call or expression. A call of `count` that answers the
-    /// same at each value gives way to the number that it answers.
+    /// An argument with the answers in its query, call or expression. A call of `count` whose query
+    /// is asked once (`is_asked_once`) gives way to the number that it answers.
     #[cycle(settled)]
     fn settled_argument(
         &self,

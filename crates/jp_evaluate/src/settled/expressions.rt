@@ -58,8 +58,8 @@ impl<'q, V: Selectable + 'q, M: Matching> Evaluation<'q, V, M> {
         Ok(settled)
     }
 
-    /// A side of a comparison with the answers in its query or call. A call of `count` that answers the
-    /// same at each value gives way to the number that it answers.
+    /// A side of a comparison with the answers in its query or call. A call of `count` whose query
+    /// is asked once (`is_asked_once`) gives way to the number that it answers.
     #[cycle(settled)]
     fn settled_operand(
         &self,
