@@ -60,10 +60,10 @@ enum {
     JP_USAGE = 2,            /* a number stands for nothing, or a handle keeps no such thing */
     JP_DOCUMENT_REFUSED = 3, /* the report has its kind */
     JP_NO_MEMORY = 4,        /* memory ran out */
-    JP_STEPS_USED_UP = 6,    /* the evaluation needs more steps than the limit */
     JP_NO_STACK = 7,         /* the thread's stack has too little left, and nothing was done */
     JP_TOO_MANY_NODES = 8,   /* there are more nodes than the limit */
-    JP_TOO_MANY_BYTES = 9    /* the lines of the nodes have more bytes than the limit */
+    JP_TOO_MANY_BYTES = 9,   /* the lines of the nodes have more bytes than the limit */
+    JP_STEPS_USED_UP = 10    /* the evaluation needs more steps than the limit */
 };
 
 /* What is written of each node, with a newline after it. */

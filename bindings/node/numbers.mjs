@@ -5,10 +5,10 @@ export const QUERY_REFUSED = 1;
 export const USAGE = 2;
 export const DOCUMENT_REFUSED = 3;
 export const NO_MEMORY = 4;
-export const STEPS_USED_UP = 6;
 export const NO_STACK = 7;
 export const TOO_MANY_NODES = 8;
 export const TOO_MANY_BYTES = 9;
+export const STEPS_USED_UP = 10;
 
 export const VALUES = 0;
 export const PATHS = 1;

@@ -15,10 +15,10 @@ pub(crate) mod status {
     pub(crate) const USAGE: u32 = 2;
     pub(crate) const DOCUMENT_REFUSED: u32 = 3;
     pub(crate) const NO_MEMORY: u32 = 4;
-    pub(crate) const STEPS_USED_UP: u32 = 6;
     pub(crate) const NO_STACK: u32 = 7;
     pub(crate) const TOO_MANY_NODES: u32 = 8;
     pub(crate) const TOO_MANY_BYTES: u32 = 9;
+    pub(crate) const STEPS_USED_UP: u32 = 10;
 }
 
 pub(crate) mod form {

@@ -18,7 +18,7 @@ status_of (Fault (find.Document f)) = 3
 status_of (Misread f place) = 3
 status_of (Fault find.DocumentTooLarge) = 3
 status_of (Fault find.NoMemory) = 4
-status_of (Fault find.StepsUsedUp) = 6
+status_of (Fault find.StepsUsedUp) = 10
 status_of (Fault find.TooManyNodes) = 8
 status_of (Fault find.TooManyBytes) = 9
 

@@ -21,7 +21,7 @@ use std::alloc::Global;
 /// Asks the query that the handle keeps of a document, as `jp_eval` does: a line for each node behind the
 /// first `from` ones, or for as many of these as `count` says, where 0 is all. The text is lent from the
 /// handle until its next call. Where a call with the same query took enough memory before, this one takes
-/// none. Answers the report's status: 2 where the handle keeps no query, 6 where the evaluation needs more
+/// none. Answers the report's status: 2 where the handle keeps no query, 10 where the evaluation needs more
 /// steps than the limit allows, 8 where there are more nodes and 9 where their lines have more bytes.
 #[unsafe(no_mangle)]
 pub extern "C" fn jp_ask(

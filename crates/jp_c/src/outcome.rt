@@ -38,8 +38,8 @@ pub(crate) struct Answered {
 #[repr(C)]
 #[derive(Debug, Clone, Copy, PartialEq, Eq)]
 pub struct Report {
-    /// 0 done, 1 query refused, 2 usage, 3 document refused, 4 want of memory, 6 steps used up, 8 too many nodes,
-    /// 9 too many bytes.
+    /// 0 done, 1 query refused, 2 usage, 3 document refused, 4 want of memory, 8 too many nodes, 9 too many bytes,
+    /// 10 steps used up.
     pub status: u32,
     /// The number of the query's kind of refusal or of the document's fault, else 0.
     pub kind: u32,
@@ -96,7 +96,7 @@ impl Outcome {
             Outcome::Misread(fault, place) => (3, fault.number() as u32, *place),
             Outcome::Fault(FindFault::DocumentTooLarge) => (3, TOO_LARGE, 0),
             Outcome::Fault(FindFault::NoMemory) => (4, 0, 0),
-            Outcome::Fault(FindFault::StepsUsedUp) => (6, 0, 0),
+            Outcome::Fault(FindFault::StepsUsedUp) => (10, 0, 0),
             Outcome::Fault(FindFault::TooManyNodes) => (8, 0, 0),
             Outcome::Fault(FindFault::TooManyBytes) => (9, 0, 0),
         };

@@ -1,15 +1,16 @@
 -- Why a run with status 0 has read and written all, and how one with status 4 or 5 left its streams.
-use Rattle.std.proofs.Common.{◌≡◌, inl, inr, ℕ, ◌≤◌, Bool, true, false, List, length}
+use Rattle.std.proofs.Common.{◌≡◌, ◌⊎◌, inl, inr, ℕ, ◌≤◌, Bool, true, false, List, length}
 use Rattle.std.proofs.Common.{Option, Some, Result, Ok, Err, sym, ◌∙◌, ap, subst, arith}
 use Rattle.std.proofs.lemmas.Option.{same_Some}
 use Rattle.jp_check.specs.declared.profile.Profile.{Profile}
 use Rattle.jp_document.specs.Document.{IsDocument}
 use Rattle.jp_document.specs.Value.{Value}
 use Rattle.jp_tree.specs.Tree.{QueryTree}
-use Rattle.jp_command.specs.Line.{done, explained, fault, memory, misread, usage}
+use Rattle.jp_command.specs.Line.{done, explained, fault, memory, misread, shown, usage}
+use Rattle.jp_command.specs.Line as line
 use Rattle.jp_command.specs.Limits.{document_limit}
 use Rattle.jp_command.specs.Program.{AskFor, AskForAccepted, AskForNone, FailsAtItsStreams}
-use Rattle.jp_command.specs.Program.{FinishesItsTask, IsOutputOf, ReadsFor}
+use Rattle.jp_command.specs.Program.{FinishesItsTask, IsOutputOf, ReadsFor, ShowsItsHelp}
 use Rattle.jp_command.specs.Run.{IsAsked, RunsOut, at_a_node, at_a_read, at_the_document}
 use Rattle.jp_command.specs.Run.{at_the_query}
 use Rattle.jp_command.specs.declared.fault.Fault.{Fault}
@@ -107,15 +108,30 @@ module _ {R W E : Type 0} (remaining : R → Option (List ℕ)) (has_failed : R 
         quiet = quiet;
       }
 
-  zero-so : (it : It) → Says it → it.status ≡ 0 → Finishes it
-  zero-so it (done profile is run handed quiet) zero = finishes profile it run handed quiet
+  abbrev Helps : It → Type 0
+  Helps = ShowsItsHelp remaining has_failed read_gives contents writes_failed write_takes holds_back
+      reports
+
+  zero-so : (it : It) → Says it → it.status ≡ 0 → Finishes it ⊎ Helps it
+  zero-so it (done profile is run handed quiet) zero = inl (finishes profile it run handed quiet)
+  zero-so it (shown none wants read (line.whole is quiet written works handed)) zero = inr (record {
+    asks = wants;
+    unread = read;
+    written = written;
+    works = works;
+    handed_on = handed;
+    quiet = quiet;
+  })
+  zero-so it (shown none wants read (line.unmade is same told)) zero = absurd (omega (arith, is, zero))
+  zero-so it (shown none wants read (line.in_part is written failed told)) zero =
+      absurd (omega (arith, is, zero))
   zero-so it (fault profile f is run told) zero = absurd (fault-is_told f (sym is ∙ zero))
   zero-so it (explained profile r is run asks told) zero = absurd (omega (arith, is, zero))
   zero-so it (misread profile d is run asks refused told) zero = absurd (omega (arith, is, zero))
-  zero-so it (usage is none read written told) zero = absurd (omega (arith, is, zero))
+  zero-so it (usage is none wrong read written told) zero = absurd (omega (arith, is, zero))
   zero-so it (memory is read written told) zero = absurd (omega (arith, is, zero))
 
-  pub zero-is_finished : (it : It) → it.status ≡ 0 → Finishes it
+  pub zero-is_finished : (it : It) → it.status ≡ 0 → Finishes it ⊎ Helps it
   zero-is_finished it zero = zero-so it it.says zero
 
   -- status 4
@@ -138,7 +154,12 @@ module _ {R W E : Type 0} (remaining : R → Option (List ℕ)) (has_failed : R 
   four-alone it (fault profile _ is run told) four = absurd (omega (arith, is, four))
   four-alone it (explained profile r is run asks told) four = absurd (omega (arith, is, four))
   four-alone it (misread profile d is run asks refused told) four = absurd (omega (arith, is, four))
-  four-alone it (usage is none read written told) four = absurd (omega (arith, is, four))
+  four-alone it (shown none wants read (line.unmade is same told)) four = none-fails it read same
+  four-alone it (shown none wants read (line.whole is quiet written works handed)) four =
+      absurd (omega (arith, is, four))
+  four-alone it (shown none wants read (line.in_part is written failed told)) four =
+      absurd (omega (arith, is, four))
+  four-alone it (usage is none wrong read written told) four = absurd (omega (arith, is, four))
   four-alone it (memory is read written told) four = none-fails it read written
 
   pub four-is_alone : (it : It) → it.status ≡ 4 → NoneFails it
@@ -177,7 +198,12 @@ module _ {R W E : Type 0} (remaining : R → Option (List ℕ)) (has_failed : R 
       absurd (omega (arith, is, four))
   four-unasked it (misread profile d is run asks refused told) four none =
       absurd (omega (arith, is, four))
-  four-unasked it (usage is nothing read written told) four none =
+  four-unasked it (shown nothing wants read (line.unmade is same told)) four none = (read, same)
+  four-unasked it (shown nothing wants read (line.whole is quiet written works handed)) four none =
+      absurd (omega (arith, is, four))
+  four-unasked it (shown nothing wants read (line.in_part is written failed told)) four none =
+      absurd (omega (arith, is, four))
+  four-unasked it (usage is nothing wrong read written told) four none =
       absurd (omega (arith, is, four))
   four-unasked it (memory is read written told) four none = (read, written)
 
@@ -238,7 +264,7 @@ module _ {R W E : Type 0} (remaining : R → Option (List ℕ)) (has_failed : R 
       → StreamsFail it
   write-fails profile it run told =
       let output : List ℕ = run.calls.0 in
-      let is : Output it run.task run.query profile output = run.calls.1 in inr (record {
+      let is : Output it run.task run.query profile output = run.calls.1 in inr (inl (record {
         task = run.task;
         text = run.query;
         profile = profile;
@@ -250,7 +276,7 @@ module _ {R W E : Type 0} (remaining : R → Option (List ℕ)) (has_failed : R 
         goes = run.calls.2;
         fails = task-unwritten profile run.task run.query it run.runs;
         tells = told;
-      })
+      }))
 
   five-so : (it : It) → Says it → it.status ≡ 5 → StreamsFail it
   five-so it (done profile is run handed quiet) five = absurd (omega (arith, is, five))
@@ -260,7 +286,18 @@ module _ {R W E : Type 0} (remaining : R → Option (List ℕ)) (has_failed : R 
   five-so it (fault profile _ is run told) five = absurd (omega (arith, is, five))
   five-so it (explained profile r is run asks told) five = absurd (omega (arith, is, five))
   five-so it (misread profile d is run asks refused told) five = absurd (omega (arith, is, five))
-  five-so it (usage is none read written told) five = absurd (omega (arith, is, five))
+  five-so it (shown none wants read (line.in_part is written failed told)) five = inr (inr (record {
+    asks = wants;
+    unread = read;
+    written = written;
+    fails = failed;
+    tells = told;
+  }))
+  five-so it (shown none wants read (line.whole is quiet written works handed)) five =
+      absurd (omega (arith, is, five))
+  five-so it (shown none wants read (line.unmade is same told)) five =
+      absurd (omega (arith, is, five))
+  five-so it (usage is none wrong read written told) five = absurd (omega (arith, is, five))
   five-so it (memory is read written told) five = absurd (omega (arith, is, five))
 
   pub five-is_streams : (it : It) → it.status ≡ 5 → StreamsFail it

@@ -17,10 +17,12 @@ use Rattle.jp_tree.specs.Tree.{QueryTree}
 use Rattle.jp_query.specs.declared.refusal.Refusal.{Refusal}
 use Rattle.jp_command.specs.Canon.{canon_line}
 use Rattle.jp_command.specs.Check.{accepted_line}
-use Rattle.jp_command.specs.CommandLine.{asked}
+use Rattle.jp_command.specs.CommandLine.{asked, jp}
 use Rattle.jp_command.specs.Headline.{Refuses, is_refusal}
+use Rattle.jp_command.specs.Help.{AsksToShow}
 use Rattle.jp_command.specs.Line.{RunsLine, RunsTask, RunsWords, done, explained, fault, memory}
-use Rattle.jp_command.specs.Line.{TellsExplained, TellsMisread, misread, status_of, usage}
+use Rattle.jp_command.specs.Line.{Shows, TellsExplained, TellsMisread, misread, shown, status_of, usage}
+use Rattle.jp_command.specs.Line as line
 use Rattle.jp_command.specs.Limits.{document_limit}
 use Rattle.jp_command.specs.Lines.{output_of}
 use Rattle.jp_command.specs.Output.{AppendsPrefix, WritesPrefix}
@@ -89,6 +91,18 @@ module _ {R W E : Type 0} (remaining : R → Option (List ℕ)) (has_failed : R 
   abbrev pub Told : It → Fault → Type 0
   Told = TellsLine remaining has_failed read_gives contents writes_failed write_takes holds_back reports
 
+  -- help or the version is shown with a status of 0, 4 or 5
+  abbrev pub Showed : It → Type 0
+  Showed it = Shows contents writes_failed holds_back reports it.o it.p it.u it.v it.status
+
+  pub shown-is_no : (it : It) (status : ℕ) → Showed it → it.status ≡ status
+      → (status ≡ 0 → ⊥) → (status ≡ 4 → ⊥) → (status ≡ 5 → ⊥) → ⊥
+  shown-is_no it status (line.whole is quiet written works handed) same zero four five =
+      zero (sym same ∙ is)
+  shown-is_no it status (line.unmade is none told) same zero four five = four (sym same ∙ is)
+  shown-is_no it status (line.in_part is written failed told) same zero four five =
+      five (sym same ∙ is)
+
   -- how a run ends whose words ask for a task
   pub data Ends (profile : Profile) (task : Task) (text : List ℕ) (it : It) : Type 0 where
     well : it.status ≡ 0 → it.v ≡ it.u → Ran profile task text it (Ok tt)
@@ -119,7 +133,9 @@ module _ {R W E : Type 0} (remaining : R → Option (List ℕ)) (has_failed : R 
   how-ends profile task text explains it asks (misread other d is run asked refused told) =
       badly (Document d) is
       (same-task profile other task text explains it (Err (Document d)) asks run)
-  how-ends profile task text explains it asks (usage is none read written told) =
+  how-ends profile task text explains it asks (usage is none wrong read written told) =
+      absurd (none-some _ (sym none ∙ asks))
+  how-ends profile task text explains it asks (shown none wants read shows) =
       absurd (none-some _ (sym none ∙ asks))
   how-ends profile task text explains it asks (memory is read written told) =
       early is read written
@@ -330,7 +346,9 @@ module _ {R W E : Type 0} (remaining : R → Option (List ℕ)) (has_failed : R 
   one-so it (explained profile r is run asks told) one =
       refused-so profile it r run (inr (asks, told))
   one-so it (misread profile d is run asks refused told) one = absurd (omega (arith, is, one))
-  one-so it (usage is none read written told) one = absurd (omega (arith, is, one))
+  one-so it (usage is none wrong read written told) one = absurd (omega (arith, is, one))
+  one-so it (shown none wants read shows) one = absurd (shown-is_no it 1 shows one
+      (λ is. omega (arith, is)) (λ is. omega (arith, is)) (λ is. omega (arith, is)))
   one-so it (memory is read written told) one = absurd (omega (arith, is, one))
 
   pub one-is_refused : (it : It) → it.status ≡ 1 → QueryRefused it
@@ -346,23 +364,36 @@ module _ {R W E : Type 0} (remaining : R → Option (List ℕ)) (has_failed : R 
   two-so it (fault profile f is run told) two = absurd (fault-is_no_usage f (sym is ∙ two))
   two-so it (explained profile r is run asks told) two = absurd (omega (arith, is, two))
   two-so it (misread profile d is run asks refused told) two = absurd (omega (arith, is, two))
-  two-so it (usage is none read written told) two = (none, read, written, told)
+  two-so it (usage is none wrong read written told) two = (none, wrong, read, written, told)
+  two-so it (shown none wants read shows) two = absurd (shown-is_no it 2 shows two
+      (λ is. omega (arith, is)) (λ is. omega (arith, is)) (λ is. omega (arith, is)))
   two-so it (memory is read written told) two = absurd (omega (arith, is, two))
 
   pub two-is_usage : (it : It) → it.status ≡ 2 → WordsRefused it
   two-is_usage it two = two-so it it.says two
 
-  none-so : (it : It) → Says it → asked it.words ≡ None → (it.status ≡ 2) ⊎ (it.status ≡ 4)
+  -- the status of words that ask for nothing
+  abbrev UnaskedStatus : It → Type 0
+  UnaskedStatus it = (it.status ≡ 2) ⊎ (it.status ≡ 4)
+      ⊎ (AsksToShow jp it.words × ((it.status ≡ 0) ⊎ (it.status ≡ 5)))
+
+  none-shown : (it : It) → AsksToShow jp it.words → Showed it → UnaskedStatus it
+  none-shown it wants (line.whole is quiet written works handed) = inr (inr (wants, inl is))
+  none-shown it wants (line.unmade is same told) = inr (inl is)
+  none-shown it wants (line.in_part is written failed told) = inr (inr (wants, inr is))
+
+  none-so : (it : It) → Says it → asked it.words ≡ None → UnaskedStatus it
   none-so it (done profile is run handed quiet) none = absurd (none-some _ (sym none ∙ run.asks))
   none-so it (fault profile f is run told) none = absurd (none-some _ (sym none ∙ run.asks))
   none-so it (explained profile r is run asks told) none =
       absurd (none-some _ (sym none ∙ run.asks))
   none-so it (misread profile d is run asks refused told) none =
       absurd (none-some _ (sym none ∙ run.asks))
-  none-so it (usage is fact read written told) none = inl is
-  none-so it (memory is read written told) none = inr is
+  none-so it (shown fact wants read shows) none = none-shown it wants shows
+  none-so it (usage is fact wrong read written told) none = inl is
+  none-so it (memory is read written told) none = inr (inl is)
 
-  pub no-words : (it : It) → asked it.words ≡ None → (it.status ≡ 2) ⊎ (it.status ≡ 4)
+  pub no-words : (it : It) → asked it.words ≡ None → UnaskedStatus it
   no-words it none = none-so it it.says none
 
   -- status 3
@@ -408,7 +439,9 @@ module _ {R W E : Type 0} (remaining : R → Option (List ℕ)) (has_failed : R 
   three-so it (explained profile r is run asks told) three = absurd (omega (arith, is, three))
   three-so it (misread profile d is run asks refused told) three =
       misread-so profile run.task run.query run.explains it d run.asks run.runs asks refused told
-  three-so it (usage is none read written told) three = absurd (omega (arith, is, three))
+  three-so it (usage is none wrong read written told) three = absurd (omega (arith, is, three))
+  three-so it (shown none wants read shows) three = absurd (shown-is_no it 3 shows three
+      (λ is. omega (arith, is)) (λ is. omega (arith, is)) (λ is. omega (arith, is)))
   three-so it (memory is read written told) three = absurd (omega (arith, is, three))
 
   pub three-is_document : (it : It) → it.status ≡ 3 → DocumentRefused it
@@ -421,7 +454,12 @@ module _ {R W E : Type 0} (remaining : R → Option (List ℕ)) (has_failed : R 
   four-so it (fault profile _ is run told) four = absurd (omega (arith, is, four))
   four-so it (explained profile r is run asks told) four = absurd (omega (arith, is, four))
   four-so it (misread profile d is run asks refused told) four = absurd (omega (arith, is, four))
-  four-so it (usage is none read written told) four = absurd (omega (arith, is, four))
+  four-so it (usage is none wrong read written told) four = absurd (omega (arith, is, four))
+  four-so it (shown none wants read (line.unmade is same told)) four = told
+  four-so it (shown none wants read (line.whole is quiet written works handed)) four =
+      absurd (omega (arith, is, four))
+  four-so it (shown none wants read (line.in_part is written failed told)) four =
+      absurd (omega (arith, is, four))
   four-so it (memory is read written told) four = told
 
   pub four-is_memory : (it : It) → it.status ≡ 4 → Told it NoMemory
@@ -434,7 +472,11 @@ module _ {R W E : Type 0} (remaining : R → Option (List ℕ)) (has_failed : R 
       let most : status_of f ≤ 5 = fault-is_within f in omega (arith, is, most)
   within-so it (explained profile r is run asks told) = omega (arith, is)
   within-so it (misread profile d is run asks refused told) = omega (arith, is)
-  within-so it (usage is none read written told) = omega (arith, is)
+  within-so it (shown none wants read (line.whole is quiet written works handed)) =
+      omega (arith, is)
+  within-so it (shown none wants read (line.unmade is same told)) = omega (arith, is)
+  within-so it (shown none wants read (line.in_part is written failed told)) = omega (arith, is)
+  within-so it (usage is none wrong read written told) = omega (arith, is)
   within-so it (memory is read written told) = omega (arith, is)
 
   pub status-is_within : (it : It) → it.status ≤ 5

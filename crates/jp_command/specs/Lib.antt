@@ -9,6 +9,7 @@ pub mod Output
 pub mod Writes
 pub mod Written
 pub mod CommandLine
+pub mod Help
 pub mod Lines
 pub mod Lead
 pub mod Run

@@ -12,8 +12,9 @@ use Rattle.jp_query.specs.Refusal.{refusal_text}
 use Rattle.jp_query.specs.declared.refusal.Refusal.{Refusal}
 use Rattle.jp_command.specs.Canon.{RunsCanon, canon_line}
 use Rattle.jp_command.specs.Check.{RunsCheck, accepted_line}
-use Rattle.jp_command.specs.CommandLine.{asked}
+use Rattle.jp_command.specs.CommandLine.{asked, jp}
 use Rattle.jp_command.specs.Explained.{IsExplanation, IsExpressionExplanation}
+use Rattle.jp_command.specs.Help.{AreNoCommand, AsksToShow}
 use Rattle.jp_command.specs.Hint.{document_hint}
 use Rattle.jp_command.specs.QueryLine.{IsQueryLine}
 use Rattle.jp_command.specs.Run.{IsOutput, RefusesDocument, RunsEval}
@@ -85,6 +86,19 @@ abbrev pub TellsMisread : List ℕ → Fault → Option (List ℕ) → Option (L
 TellsMisread bytes f old new =
     (text : List ℕ) × IsMisreadLine bytes f text × AppendsPrefix old new text
 
+-- o and p are the output before and after, u and v what takes the lines of faults
+module _ {W E : Type 0} (contents : W → Option (List ℕ)) (writes_failed : W → Bool)
+    (holds_back : W → Bool) (reports : E → Option (List ℕ)) where
+  -- some text is written and handed on; or a write failed, or there is no memory for the text, and that
+  -- is told, with this status
+  pub data Shows (o p : W) (u v : E) (status : ℕ) : Type 0 where
+    whole : status ≡ 0 → v ≡ u → AppendsSome (contents o) (contents p)
+        → writes_failed p ≡ writes_failed o → holds_back p ≡ false → Shows o p u v status
+    in_part : status ≡ 5 → AppendsSome (contents o) (contents p) → writes_failed p ≡ true
+        → AppendsPrefix (reports u) (reports v) (fault_line Write) → Shows o p u v status
+    unmade : status ≡ 4 → p ≡ o → AppendsPrefix (reports u) (reports v) (fault_line NoMemory)
+        → Shows o p u v status
+
 -- i and j are the input before and after a run, o and p the output
 module _ (profile : Profile) {R W : Type 0} (remaining : R → Option (List ℕ))
     (has_failed : R → Bool) (read_gives : R → Option (List ℕ) → R → Type 0)
@@ -130,8 +144,8 @@ module _ {R W : Type 0} (remaining : R → Option (List ℕ)) (has_failed : R �
   -- `holds_back` tells whether the output may hold back some of what it took. Behind the line of a
   -- refused query stands an explanation only where the words ask for it, and behind that of a refused
   -- document how the bytes that were read are misread; and then unless memory ran out for it. Where
-  -- the words are not ones that the command line takes, clap's text is told, of which its contract
-  -- says nothing
+  -- the words ask for help or for the version, clap's text of that is written, and where they are not
+  -- ones that the command line takes, its text is told; its contract says nothing of either
   pub data RunsLine (holds_back : W → Bool) {E : Type 0} (reports : E → Option (List ℕ))
       (words : List (List ℕ)) (i j : R) (o p : W) (u v : E) (status : ℕ) : Type 0 where
     done : (profile : Profile) → status ≡ 0 → EndsAs profile words i j o p (Ok tt)
@@ -150,7 +164,10 @@ module _ {R W : Type 0} (remaining : R → Option (List ℕ)) (has_failed : R �
         run.query i j f)
         → TellsMisread refused.bytes (Document f) (reports u) (reports v)
         → RunsLine holds_back reports words i j o p u v status
-    usage : status ≡ 2 → asked words ≡ None → j ≡ i → p ≡ o
+    shown : asked words ≡ None → AsksToShow jp words → j ≡ i
+        → Shows contents writes_failed holds_back reports o p u v status
+        → RunsLine holds_back reports words i j o p u v status
+    usage : status ≡ 2 → asked words ≡ None → AreNoCommand jp words → j ≡ i → p ≡ o
         → AppendsSome (reports u) (reports v) → RunsLine holds_back reports words i j o p u v status
     memory : status ≡ 4 → j ≡ i → p ≡ o
         → AppendsPrefix (reports u) (reports v) (fault_line NoMemory)

@@ -6,4 +6,5 @@ pub mod Faults
 pub mod Firsts
 pub mod Fronts
 pub mod Kept
+pub mod Showing
 pub mod Shown

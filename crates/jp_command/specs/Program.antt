@@ -14,7 +14,8 @@ use Rattle.jp_tree.specs.Tree.{QueryTree}
 use Rattle.jp_query.specs.declared.refusal.Refusal.{Refusal}
 use Rattle.jp_command.specs.Canon.{canon_line}
 use Rattle.jp_command.specs.Check.{accepted_line}
-use Rattle.jp_command.specs.CommandLine.{asked}
+use Rattle.jp_command.specs.CommandLine.{asked, jp}
+use Rattle.jp_command.specs.Help.{AreNoCommand, AsksToShow}
 use Rattle.jp_command.specs.Headline.{Headline, IsAcceptedPair, Refuses, RefusesLarge, RefusesRead}
 use Rattle.jp_command.specs.Input.{FailsToRead, ReadsAll}
 use Rattle.jp_command.specs.Line.{IsWrittenBy, RunsLine, TellsExplained, TellsMisread, fault_line}
@@ -103,8 +104,18 @@ module _ {R W E : Type 0} (remaining : R → Option (List ℕ)) (has_failed : R 
 
   -- the words ask for nothing; nothing is read or written, and some text tells so
   abbrev pub RefusesItsWords : ProgramRun → Type 0
-  RefusesItsWords it = (asked it.words ≡ None) × (it.j ≡ it.i) × (it.p ≡ it.o)
-      × AppendsSome (reports it.u) (reports it.v)
+  RefusesItsWords it = (asked it.words ≡ None) × AreNoCommand jp it.words × (it.j ≡ it.i)
+      × (it.p ≡ it.o) × AppendsSome (reports it.u) (reports it.v)
+
+  -- the words ask for help or for the version; nothing is read, some text is written, and nothing of it
+  -- is held back; and nothing is told
+  pub record ShowsItsHelp (it : ProgramRun) : Type 0 where
+    pub asks : AsksToShow jp it.words
+    pub unread : it.j ≡ it.i
+    pub written : AppendsSome (contents it.o) (contents it.p)
+    pub works : writes_failed it.p ≡ writes_failed it.o
+    pub handed_on : holds_back it.p ≡ false
+    pub quiet : it.v ≡ it.u
 
   -- the words ask for this task of an accepted query
   pub record AskForAccepted (it : ProgramRun) (task : Task) (text : List ℕ) (profile : Profile)
@@ -171,9 +182,19 @@ module _ {R W E : Type 0} (remaining : R → Option (List ℕ)) (has_failed : R 
     pub fails : writes_failed it.p ≡ true
     pub tells : TellsLine it Write
 
+  -- the words ask for help or for the version; nothing is read, a write of its text failed, and that is
+  -- told
+  pub record FailsToShowItsHelp (it : ProgramRun) : Type 0 where
+    pub asks : AsksToShow jp it.words
+    pub unread : it.j ≡ it.i
+    pub written : AppendsSome (contents it.o) (contents it.p)
+    pub fails : writes_failed it.p ≡ true
+    pub tells : TellsLine it Write
+
   -- the input or the output failed
   abbrev pub FailsAtItsStreams : ProgramRun → Type 0
-  FailsAtItsStreams it = FailsToReadItsInput it ⊎ FailsToWriteItsOutput it
+  FailsAtItsStreams it =
+      FailsToReadItsInput it ⊎ FailsToWriteItsOutput it ⊎ FailsToShowItsHelp it
 
   pub record Program : Type 0 where
     -- What runs answer and write is what the headline says of them, in each profile.
@@ -211,8 +232,8 @@ module _ {R W E : Type 0} (remaining : R → Option (List ℕ)) (has_failed : R 
         → AskFor it.words task text profile explains
         → it.status ≡ 0
         → (q : QueryTree) × IsAsked profile text q
-    -- and all is read and written, to the last byte;
-    pub finished : (it : ProgramRun) → it.status ≡ 0 → FinishesItsTask it
+    -- and all is read and written, to the last byte, if not help or the version is asked for;
+    pub finished : (it : ProgramRun) → it.status ≡ 0 → FinishesItsTask it ⊎ ShowsItsHelp it
     -- a query that is not has status 1, unless memory runs out,
     pub not_accepted : (it : ProgramRun) (task : Task) (text : List ℕ) (profile : Profile)
         (explains : Bool)
@@ -221,9 +242,11 @@ module _ {R W E : Type 0} (remaining : R → Option (List ℕ)) (has_failed : R 
         → (it.status ≡ 1) ⊎ (it.status ≡ 4)
     -- which no other has.
     pub refused : (it : ProgramRun) → it.status ≡ 1 → RefusesItsQuery it
-    -- Words that ask for nothing have status 2, unless memory runs out,
+    -- Words that ask for nothing have status 2, unless memory runs out, or they ask for help or for the
+    -- version,
     pub no_words : (it : ProgramRun) → asked it.words ≡ None
         → (it.status ≡ 2) ⊎ (it.status ≡ 4)
+        ⊎ (AsksToShow jp it.words × ((it.status ≡ 0) ⊎ (it.status ≡ 5)))
     -- which no others have.
     pub refused_words : (it : ProgramRun) → it.status ≡ 2 → RefusesItsWords it
     -- Bytes that are no document, or too many, have status 3, unless memory runs out or the input

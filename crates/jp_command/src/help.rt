@@ -9,7 +9,7 @@ a refused document with its line, its column and the reason.
 
 Example: echo '[1,2]' | jp eval '$[-1]'
 
-Statuses: 0 done, 1 query refused, 2 usage or help, 3 document refused,
+Statuses: 0 done, 1 query refused, 2 usage, 3 document refused,
 4 want of memory, 5 read or write fault";
 
 /// What help says of a subcommand.

@@ -3,7 +3,7 @@
 ghost use Rattle.std.specs.Prelude.{◌≡◌, ◌≢◌, IfErr, IfOk, OnOk, false, map, string_bytes};
 ghost use Rattle.std.specs.Cow.{cow_str_bytes};
 ghost use Rattle.clap.specs.Words.{kind_of};
-ghost use Rattle.jp_command.specs.Line.{IsWrittenBy, RunsLine, RunsTask, fault_line, status_of};
+ghost use Rattle.jp_command.specs.Line.{IsWrittenBy, RunsLine, RunsTask, Shows, fault_line, status_of};
 ghost use Rattle.jp_command.specs.Private.Asked.{TellsFault};
 ghost use Rattle.jp_command.specs.Private.Kept.{IsFaultOfBytes, KeepsRead};
 ghost use Rattle.jp_command.specs.Writes.{WritesByCalls};
@@ -16,6 +16,7 @@ use crate::eval::run_eval_keeping;
 use crate::explained::{report_misreading, report_refusal};
 use crate::fault::Fault;
 use crate::output::write_all;
+use crate::shown::{is_shown, write_shown};
 use crate::words::{Asked, Task, read_words};
 use clap::Error;
 use clap::error::ErrorKind;
@@ -23,12 +24,12 @@ use std::alloc::{AllocError, Global};
 use std::borrow::CowStr;
 
 /// Does what `words` ask for, of which the first is the program's name, and answers the status: 0
-/// where it is done, 1 where the query is refused, 2 where the words are not ones that the command
-/// line takes, 3 where the document is refused, 4 where the memory did not suffice, 5 where the
-/// input or the output failed. Every status but 0 has its line in `faults`, if it can be written
-/// there; with status 2 that is clap's own text. With the flag `--explain` the line of a refused
-/// query or document has an explanation behind it, if there is memory for that. The output is flushed
-/// once, after a run that is done.
+/// where it is done, also where help or the version is written to `output`, 1 where the query is
+/// refused, 2 where the words are not ones that the command line takes, 3 where the document is refused,
+/// 4 where the memory did not suffice, 5 where the input or the output failed. Every status but 0 has its
+/// line in `faults`, if it can be written there; with status 2 that is clap's own text. With the flag
+/// `--explain` the line of a refused query or document has an explanation behind it, if there is memory
+/// for that. The output is flushed once, after a run that is done.
 pub fn run_line<R: Source, W: Output, E: Writer>(
     alloc: Global,
     words: Vec<String>,
@@ -51,7 +52,22 @@ pub fn run_line<R: Source, W: Output, E: Writer>(
                 }
             }
         }
+        Err(error) if is_shown(error.kind()) => show(alloc, &error, output, faults),
         Err(error) => refuse_words(alloc, &error, faults),
+    }
+}
+
+/// Writes help or the version, and answers the status.
+fn show<W: Output, E: Writer>(alloc: Global, error: &Error, output: &mut W, faults: &mut E) -> u8
+    ensures { Shows W.contents W.has_failed W.holds_back E.contents output.old output.new faults.old
+        faults.new result }
+{
+    match write_shown(alloc, error, output) {
+        Ok(()) => 0,
+        Err(fault) => {
+            report(alloc, &fault, faults);
+            status(&fault)
+        }
     }
 }
 

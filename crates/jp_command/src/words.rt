@@ -5,11 +5,11 @@ ghost use Rattle.std.specs.Prelude.{option_and_then, option_map, string_bytes};
 ghost use Rattle.clap.specs.Words.{IsAmong, app_of, fault_of, found_of, kind_of, rows_of};
 ghost use Rattle.clap.specs.Words.{subcommand_of, subcommand_rows_of};
 ghost use Rattle.clap.specs.declared.builder.command.Command.TheViews.{out-Command};
-ghost use Rattle.clap.specs.declared.error.kind.ErrorKind.TheVariants.{OutOfMemory};
+ghost use Rattle.clap.specs.declared.error.kind.ErrorKind.TheVariants.{MissingSubcommand, OutOfMemory};
 ghost use Rattle.jp_command.specs.CommandLine.{asked, asked_by, is_set, jp, profile_asked};
 ghost use Rattle.jp_command.specs.CommandLine.{query_app, task_app, task_called, with_flag};
 ghost use Rattle.jp_command.specs.CommandLine.{with_task};
-ghost use Rattle.jp_command.specs.Private.Asked.{parts_of};
+ghost use Rattle.jp_command.specs.Private.Asked.{IsNoCommand, parts_of};
 
 use crate::help::{AFTER_HELP, BOTH, CANON, CHECK, CommandHelp, EVAL, PATHS};
 use crate::lines::Form;
@@ -202,7 +202,7 @@ pub(crate) fn read_words<'w>(alloc: Global, words: &'w [String]) -> Result<Asked
     ensures asked { IfOk result (λ found.
         asked (map string_bytes words.entry.now) ≡ Some (parts_of found)) }
     ensures refused { IfErr result (λ error. (kind_of error ≡ OutOfMemory)
-        ⊎ (asked (map string_bytes words.entry.now) ≡ None)) }
+        ⊎ IsNoCommand (kind_of error) (map string_bytes words.entry.now)) }
 {
     let matches = matches_of(alloc, words)?;
     match asked_in(&matches) {
@@ -212,6 +212,8 @@ pub(crate) fn read_words<'w>(alloc: Global, words: &'w [String]) -> Result<Asked
 }
 
 /// Clap's error for words that it takes and that name no task with a query.
-fn no_task(alloc: Global) -> Result<Error, AllocError> {
+fn no_task(alloc: Global) -> Result<Error, AllocError>
+    ensures { IfOk result (λ error. kind_of error ≡ MissingSubcommand) }
+{
     jp_command(alloc)?.error(ErrorKind::MissingSubcommand, "no subcommand has a query")
 }

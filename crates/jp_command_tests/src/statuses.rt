@@ -118,16 +118,12 @@ fn ends_as_its_words_ask(rt: HostRuntime) -> Result<(), Fail> {
 
 #[test]
 fn refuses_words_that_it_does_not_take(rt: HostRuntime) -> Result<(), Fail> {
-    let lines: [&[&str]; 19] = [
+    let lines: [&[&str]; 15] = [
         &[],
         &["jp"],
         &["jp", "both"],
         &["jp", "both", "$", "$"],
         &["jp", "value", "$"],
-        &["jp", "help"],
-        &["jp", "--help"],
-        &["jp", "--version"],
-        &["jp", "both", "--help"],
         &["jp", "both", "--extended"],
         &["jp", "both", "--extended", "$", "--extended"],
         &["jp", "both", "--extended", "--extended", "$"],
@@ -149,9 +145,9 @@ fn refuses_words_that_it_does_not_take(rt: HostRuntime) -> Result<(), Fail> {
 #[test]
 fn tells_of_each_subcommand_and_status_in_its_help(rt: HostRuntime) -> Result<(), Fail> {
     let alloc = rt.alloc();
-    let (status, _, faults) = ended(alloc, &["jp", "--help"], b"[1]".as_slice())?;
-    assert_eq!(rt; status, 2);
-    let help = str::from_utf8(faults.as_slice())?;
+    let (status, output, faults) = ended(alloc, &["jp", "--help"], b"[1]".as_slice())?;
+    assert_eq!(rt; (status, faults.len()), (0, 0));
+    let help = str::from_utf8(output.as_slice())?;
     for part in [
         "\n  check ",
         "\n  canon ",
@@ -164,7 +160,7 @@ fn tells_of_each_subcommand_and_status_in_its_help(rt: HostRuntime) -> Result<()
         "jp eval '$[-1]'",
         "0 done",
         "1 query refused",
-        "2 usage or help",
+        "2 usage,",
         "3 document refused",
         "4 want of memory",
         "5 read or write fault",
@@ -174,8 +170,14 @@ fn tells_of_each_subcommand_and_status_in_its_help(rt: HostRuntime) -> Result<()
     Ok(())
 }
 
-/// Words that clap tells of, and a part of what it tells: an example, or where a file's name goes.
-const TOLD: &[(&[&str], &str)] = &[
+/// Words that ask for help or for the version, and a part of what they are answered.
+const SHOWN: &[(&[&str], &str)] = &[
+    (&["jp", "--version"], "jp 0.1.0\n"),
+    (&["/usr/lib/jp", "--help"], "\nUsage: jp <COMMAND>\n"),
+    (
+        &["jp", "help", "canon"],
+        "\nExample: jp canon '$.a[\"b\"]'\n",
+    ),
     (
         &["jp", "check", "--help"],
         "\nExample: jp check --explain '$[?@.a=1]'\n",
@@ -196,6 +198,10 @@ const TOLD: &[(&[&str], &str)] = &[
         &["jp", "both", "--help"],
         "\nExample: echo '[1,2]' | jp both '$.*'\n",
     ),
+];
+
+/// Words that are no command since a file is named in them, and what tells where its name goes.
+const FILES: &[(&[&str], &str)] = &[
     (
         &["jp", "eval", "$", "d.json"],
         "\nUsage: jp eval [OPTIONS] <QUERY> < FILE\n",
@@ -211,11 +217,42 @@ const TOLD: &[(&[&str], &str)] = &[
 ];
 
 #[test]
-fn shows_an_example_of_each_subcommand_and_where_a_file_goes(rt: HostRuntime) -> Result<(), Fail> {
-    for (line, part) in TOLD {
-        let (status, _, faults) = ended(rt.alloc(), line, b"[1]".as_slice())?;
+fn writes_help_and_the_version(rt: HostRuntime) -> Result<(), Fail> {
+    for (line, part) in SHOWN {
+        let (status, output, faults) = ended(rt.alloc(), line, b"[1]".as_slice())?;
+        assert_eq!(rt; (status, faults.len()), (0, 0));
+        let text = str::from_utf8(output.as_slice())?;
+        assert!(rt; text.contains(part), "{part}");
+    }
+    Ok(())
+}
+
+#[test]
+fn tells_that_help_could_not_be_written(rt: HostRuntime) -> Result<(), Fail> {
+    for room in [0, 1, 100] {
+        let mut output = Narrow::new(rt.alloc(), room);
+        let mut faults = Vec::new(rt.alloc());
+        let mut input = b"[1]".as_slice();
+        let status = run_line(
+            rt.alloc(),
+            words(rt.alloc(), &["jp", "--help"])?,
+            &mut Device::new(&mut input),
+            &mut Device::new(&mut output),
+            &mut Device::new(&mut faults),
+        );
+        assert_eq!(rt; (status, output.taken.len(), input.len()), (5, room, 3));
+        assert_eq!(rt; faults.as_slice(), b"write fault\n".as_slice());
+    }
+    Ok(())
+}
+
+#[test]
+fn tells_where_the_name_of_a_file_goes(rt: HostRuntime) -> Result<(), Fail> {
+    for (line, part) in FILES {
+        let (status, output, faults) = ended(rt.alloc(), line, b"[1]".as_slice())?;
+        assert_eq!(rt; (status, output.len()), (2, 0));
         let text = str::from_utf8(faults.as_slice())?;
-        assert!(rt; status == 2 && text.contains(part), "{part}");
+        assert!(rt; text.contains(part), "{part}");
     }
     Ok(())
 }

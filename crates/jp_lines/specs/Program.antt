@@ -3,10 +3,8 @@
 use Rattle.std.specs.Prelude.{◌≡◌, ◌⊎◌, ⊤, ℕ, ◌==◌, Bool, true, false, [], ◌&&◌, List}
 use Rattle.std.specs.Prelude.{Option, Some, None, Result, Ok, Err, if◌then◌else◌, nat_lt, string_bytes}
 use Rattle.std.specs.Io.KnownBytes.{Keeps}
-use Rattle.clap.specs.Words.{IsAmong, fault_of}
-use Rattle.clap.specs.declared.error.kind.ErrorKind.{ErrorKind}
-use Rattle.clap.specs.declared.error.kind.ErrorKind.TheVariants as kind
 use Rattle.jp_check.specs.declared.profile.Profile.{Profile}
+use Rattle.jp_command.specs.Help.{AreNoCommand, AsksToShow}
 use Rattle.jp_command.specs.Line.{TellsExplained, TellsExpression, fault_line, fault_text, status_of}
 use Rattle.jp_command.specs.Output.{AppendsPrefix, AppendsSome, WritesAll}
 use Rattle.jp_command.specs.Run.{RefusesQuery}
@@ -80,20 +78,9 @@ status_of_end options passed (Err why) = status_of_halt why
 
 -- ---- words
 
--- help and the version are no faults of the words, though clap's error tells that they are asked for
-abbrev pub is_shown : ErrorKind → Bool
-is_shown kind.DisplayHelp = true
-is_shown kind.DisplayVersion = true
-is_shown _ = false
-
--- clap finds that the words ask for help or for the version
-abbrev pub AsksToShow : List (List ℕ) → Type 0
-AsksToShow words = (k : ErrorKind) × IsAmong k (fault_of jp_lines words) × (is_shown k ≡ true)
-
--- they are no command, and clap finds a fault in them, or none in words that name no task
+-- they are no command, and ask neither for help nor for the version
 abbrev pub AreRefused : List (List ℕ) → Type 0
-AreRefused words = (asked words ≡ None) × ((fault_of jp_lines words ≡ [])
-    ⊎ ((k : ErrorKind) × IsAmong k (fault_of jp_lines words) × (is_shown k ≡ false)))
+AreRefused words = (asked words ≡ None) × AreNoCommand jp_lines words
 
 -- ---- what is told
 
@@ -236,10 +223,10 @@ module _ {I R W E : Type 0} (opens : I → List ℕ → Result R Unopened → I 
             → status ≡ status_of_unbegun why
             → TellsUnbegun reports reports_failed run.job.profile why (hung_up p) u v
             → RunsProgram words a b o p u v status
-        shown : status ≡ 0 → AsksToShow words → b ≡ a → v ≡ u → AppendsSome (contents o) (contents p)
+        shown : status ≡ 0 → AsksToShow jp_lines words → b ≡ a → v ≡ u → AppendsSome (contents o) (contents p)
             → writes_failed p ≡ writes_failed o → holds_back p ≡ false
             → RunsProgram words a b o p u v status
-        shown_in_part : status ≡ 5 → AsksToShow words → b ≡ a → AppendsSome (contents o) (contents p)
+        shown_in_part : status ≡ 5 → AsksToShow jp_lines words → b ≡ a → AppendsSome (contents o) (contents p)
             → writes_failed p ≡ true → TellsWriteFault reports reports_failed (hung_up p) u v
             → RunsProgram words a b o p u v status
         usage : status ≡ 2 → AreRefused words → b ≡ a → p ≡ o

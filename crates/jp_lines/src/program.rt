@@ -1,22 +1,19 @@
 //! The whole program over its words.
 
-ghost use Rattle.std.specs.Prelude.{◌≡◌, List, ℕ, IfErr, OnOk, Some, false, map, string_bytes};
+ghost use Rattle.std.specs.Prelude.{◌≡◌, List, ℕ, Some, map, string_bytes};
 ghost use Rattle.jp_lines.specs.CommandLine.{asked};
 ghost use Rattle.jp_lines.specs.Views.{job_of};
-ghost use Rattle.jp_command.specs.Output.{AppendsSome};
-ghost use Rattle.jp_lines.specs.Private.Telling.{Shows, StopsShowing};
-ghost use Rattle.jp_lines.specs.Program.{RunsProgram, is_shown};
+ghost use Rattle.jp_lines.specs.Private.Telling.{Shows};
+ghost use Rattle.jp_lines.specs.Program.{RunsProgram};
 
 use crate::closing::{close, tell_fault, tell_unbegun, tell_write_fault};
 use crate::inputs::Inputs;
 use crate::runs::run_job;
 use crate::status::status_of_unbegun;
 use crate::task::Job;
-use crate::treating::flush;
 use crate::words::read_words;
 use clap::Error;
-use clap::error::ErrorKind;
-use jp_command::{Fault, Output, Writer, refuse_words, status, write_all};
+use jp_command::{Fault, Output, Writer, is_shown, refuse_words, status, write_shown};
 use std::alloc::Global;
 
 /// Does what `words` ask for, of which the first is the program's name, and answers the status: 0
@@ -72,13 +69,6 @@ fn do_job<I: Inputs, W: Output, E: Writer>(
     }
 }
 
-/// Whether an error of clap's tells that its text is asked for, as help and the version are.
-fn is_shown(kind: ErrorKind) -> bool
-    ensures { result ≡ is_shown kind }
-{
-    matches!(kind, ErrorKind::DisplayHelp | ErrorKind::DisplayVersion)
-}
-
 /// Writes the text of clap's error, and answers the status.
 fn show<W: Output, E: Writer>(alloc: Global, error: &Error, output: &mut W, faults: &mut E) -> u8
     ensures { Shows W.contents W.has_failed W.hung_up W.holds_back E.contents E.has_failed output.old
@@ -95,18 +85,4 @@ fn show<W: Output, E: Writer>(alloc: Global, error: &Error, output: &mut W, faul
             status(&fault)
         }
     }
-}
-
-/// Writes the text of clap's error and hands it on.
-fn write_shown<W: Output>(alloc: Global, error: &Error, output: &mut W) -> Result<(), Fault>
-    ensures written { AppendsSome (W.contents output.old) (W.contents output.new) }
-    ensures works { OnOk result (W.has_failed output.new ≡ W.has_failed output.old) }
-    ensures handed_on { OnOk result (W.holds_back output.new ≡ false) }
-    ensures stopped { IfErr result (StopsShowing W.has_failed output.old output.new) }
-{
-    let text = error.to_string(alloc)?;
-    let Ok(()) = write_all(output, text.as_bytes()) else {
-        return Err(Fault::Write);
-    };
-    flush(true, output)
 }

@@ -1,18 +1,9 @@
--- What is written where help or the version is asked for. `show` and `write_shown` cite it.
+-- What is written where help or the version is asked for. `show` cites it.
 use Rattle.std.specs.Prelude.{◌≡◌, ℕ, Bool, true, false, List, Option}
 use Rattle.jp_command.specs.Line.{fault_line}
 use Rattle.jp_command.specs.Output.{AppendsSome}
-use Rattle.jp_command.specs.declared.fault.Fault.{Fault}
-use Rattle.jp_command.specs.declared.fault.Fault.TheVariants.{NoMemory, Write}
+use Rattle.jp_command.specs.declared.fault.Fault.TheVariants.{NoMemory}
 use Rattle.jp_lines.specs.Program.{TellsLine, TellsWriteFault}
-
--- o and p are the output before and after
-module _ {W : Type 0} (has_failed : W → Bool) (o p : W) where
-  -- why clap's text was not written to its end
-  abbrev pub StopsShowing : Fault → Type 0
-  StopsShowing NoMemory = p ≡ o
-  StopsShowing Write = has_failed p ≡ true
-  StopsShowing _ = ⊥
 
 module _ {W E : Type 0} (contents : W → Option (List ℕ)) (writes_failed : W → Bool)
     (hung_up : W → Bool) (holds_back : W → Bool) (reports : E → Option (List ℕ))

@@ -7,10 +7,10 @@ final class Numbers {
     static final int USAGE = 2;
     static final int DOCUMENT_REFUSED = 3;
     static final int NO_MEMORY = 4;
-    static final int STEPS_USED_UP = 6;
     static final int NO_STACK = 7;
     static final int TOO_MANY_NODES = 8;
     static final int TOO_MANY_BYTES = 9;
+    static final int STEPS_USED_UP = 10;
     static final int VALUES = 0;
     static final int PATHS = 1;
     static final int BOTH = 2;
