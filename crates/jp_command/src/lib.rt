@@ -33,7 +33,7 @@ mod lines;
 mod output;
 mod selecting;
 mod selection_fault;
-mod shown;
+mod showing;
 mod words;
 
 pub use buffer::{BufferedOutput, buffered, unbuffered};
@@ -54,5 +54,5 @@ pub use lines::{Form, SelectedLines, Spare, selected_lines, write_selected};
 pub use output::write_all;
 pub use selecting::{Rooms, push_selected};
 pub use selection_fault::{SelectionFault, check_output};
-pub use shown::{is_shown, write_shown};
+pub use showing::{is_shown, write_shown};
 pub use words::{is_set, profile_asked, query_command, with_flag};

@@ -16,7 +16,7 @@ use crate::eval::run_eval_keeping;
 use crate::explained::{report_misreading, report_refusal};
 use crate::fault::Fault;
 use crate::output::write_all;
-use crate::shown::{is_shown, write_shown};
+use crate::showing::{is_shown, write_shown};
 use crate::words::{Asked, Task, read_words};
 use clap::Error;
 use clap::error::ErrorKind;
