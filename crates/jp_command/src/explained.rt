@@ -15,6 +15,7 @@ use crate::fault::Fault;
 use crate::line::report;
 use crate::output::write_all;
 use jp_check::Profile;
+use jp_explain::Surroundings::Shell;
 use jp_explain::{Reason, explain, explain_expression, explanation_text};
 use jp_json::{JsonReason, Misreading, misreading_of};
 use jp_query::{Refusal, RefusalKind};
@@ -79,10 +80,10 @@ fn explanation(
 {
     match refusal.kind {
         RefusalKind::TextTooLong => {
-            let sentence = Reason::TextTooLong.sentence();
+            let sentence = Reason::TextTooLong.sentence(Shell);
             format!(in alloc; "{sentence}\n")
         }
-        _ => explanation_text(alloc, &explain(alloc, query, profile, refusal)?),
+        _ => explanation_text(alloc, &explain(alloc, query, profile, refusal, Shell)?),
     }
 }
 
@@ -134,11 +135,11 @@ fn expression_explanation(
 {
     match refusal.kind {
         RefusalKind::TextTooLong => {
-            let sentence = Reason::TextTooLong.sentence();
+            let sentence = Reason::TextTooLong.sentence(Shell);
             format!(in alloc; "{sentence}\n")
         }
         _ => {
-            let explanation = explain_expression(alloc, expression, profile, refusal)?;
+            let explanation = explain_expression(alloc, expression, profile, refusal, Shell)?;
             explanation_text(alloc, &explanation)
         }
     }
