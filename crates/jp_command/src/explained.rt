@@ -182,7 +182,7 @@ fn misread_line(alloc: Global, fault: &Fault, bytes: &[u8]) -> Result<Option<Str
     }
 }
 
-/// What is said more of bytes that show another form than one document, behind a space.
+/// What is said more in a shell of bytes that show another form than one document, behind a space.
 fn hint(misreading: &Misreading, bytes: &[u8]) -> &'static str
     ensures { result.now ≡ document_hint misreading.now bytes.now }
 {
@@ -191,6 +191,8 @@ fn hint(misreading: &Misreading, bytes: &[u8]) -> &'static str
             " Where each line holds a document, jp-lines reads them."
         }
         JsonReason::RecordSeparator => " tr -d '\\036' takes it away.",
+        JsonReason::Gzip => " gzip -dc writes what it holds.",
+        JsonReason::Utf16 => " iconv -f UTF-16 -t UTF-8 writes it so.",
         _ => "",
     }
 }
