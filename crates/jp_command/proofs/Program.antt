@@ -21,7 +21,7 @@ use Rattle.jp_command.specs.CommandLine.{asked, jp}
 use Rattle.jp_command.specs.Headline.{Refuses, is_refusal}
 use Rattle.jp_command.specs.Help.{AsksToShow}
 use Rattle.jp_command.specs.Line.{RunsLine, RunsTask, RunsWords, done, explained, fault, memory}
-use Rattle.jp_command.specs.Line.{Shows, TellsExplained, TellsMisread, misread, shown, status_of, usage}
+use Rattle.jp_command.specs.Line.{EndsShowing, TellsExplained, TellsMisread, misread, shown, status_of, usage}
 use Rattle.jp_command.specs.Line as line
 use Rattle.jp_command.specs.Limits.{document_limit}
 use Rattle.jp_command.specs.Lines.{output_of}
@@ -93,7 +93,7 @@ module _ {R W E : Type 0} (remaining : R → Option (List ℕ)) (has_failed : R 
 
   -- help or the version is shown with a status of 0, 4 or 5
   abbrev pub Showed : It → Type 0
-  Showed it = Shows contents writes_failed holds_back reports it.o it.p it.u it.v it.status
+  Showed it = EndsShowing contents writes_failed holds_back reports it.o it.p it.u it.v it.status
 
   pub shown-is_no : (it : It) (status : ℕ) → Showed it → it.status ≡ status
       → (status ≡ 0 → ⊥) → (status ≡ 4 → ⊥) → (status ≡ 5 → ⊥) → ⊥

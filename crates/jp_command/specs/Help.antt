@@ -13,8 +13,8 @@ is_shown _ = false
 
 -- clap answers words with an error of this kind: it finds something of it in them, or nothing in words
 -- that ask for nothing
-abbrev pub IsAnswered : App → ErrorKind → List Text → Type 0
-IsAnswered app k words = IsAmong k (fault_of app words)
+abbrev pub IsClapsAnswer : App → ErrorKind → List Text → Type 0
+IsClapsAnswer app k words = IsAmong k (fault_of app words)
     ⊎ ((fault_of app words ≡ []) × (k ≡ kind.MissingSubcommand))
 
 -- clap finds that the words ask this command line for help or for the version

@@ -91,13 +91,13 @@ module _ {W E : Type 0} (contents : W → Option (List ℕ)) (writes_failed : W 
     (holds_back : W → Bool) (reports : E → Option (List ℕ)) where
   -- some text is written and handed on; or a write failed, or there is no memory for the text, and that
   -- is told, with this status
-  pub data Shows (o p : W) (u v : E) (status : ℕ) : Type 0 where
+  pub data EndsShowing (o p : W) (u v : E) (status : ℕ) : Type 0 where
     whole : status ≡ 0 → v ≡ u → AppendsSome (contents o) (contents p)
-        → writes_failed p ≡ writes_failed o → holds_back p ≡ false → Shows o p u v status
+        → writes_failed p ≡ writes_failed o → holds_back p ≡ false → EndsShowing o p u v status
     in_part : status ≡ 5 → AppendsSome (contents o) (contents p) → writes_failed p ≡ true
-        → AppendsPrefix (reports u) (reports v) (fault_line Write) → Shows o p u v status
+        → AppendsPrefix (reports u) (reports v) (fault_line Write) → EndsShowing o p u v status
     unmade : status ≡ 4 → p ≡ o → AppendsPrefix (reports u) (reports v) (fault_line NoMemory)
-        → Shows o p u v status
+        → EndsShowing o p u v status
 
 -- i and j are the input before and after a run, o and p the output
 module _ (profile : Profile) {R W : Type 0} (remaining : R → Option (List ℕ))
@@ -165,7 +165,7 @@ module _ {R W : Type 0} (remaining : R → Option (List ℕ)) (has_failed : R �
         → TellsMisread refused.bytes (Document f) (reports u) (reports v)
         → RunsLine holds_back reports words i j o p u v status
     shown : asked words ≡ None → AsksToShow jp words → j ≡ i
-        → Shows contents writes_failed holds_back reports o p u v status
+        → EndsShowing contents writes_failed holds_back reports o p u v status
         → RunsLine holds_back reports words i j o p u v status
     usage : status ≡ 2 → asked words ≡ None → AreNoCommand jp words → j ≡ i → p ≡ o
         → AppendsSome (reports u) (reports v) → RunsLine holds_back reports words i j o p u v status

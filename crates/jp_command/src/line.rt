@@ -3,7 +3,7 @@
 ghost use Rattle.std.specs.Prelude.{◌≡◌, ◌≢◌, IfErr, IfOk, OnOk, false, map, string_bytes};
 ghost use Rattle.std.specs.Cow.{cow_str_bytes};
 ghost use Rattle.clap.specs.Words.{kind_of};
-ghost use Rattle.jp_command.specs.Line.{IsWrittenBy, RunsLine, RunsTask, Shows, fault_line, status_of};
+ghost use Rattle.jp_command.specs.Line.{IsWrittenBy, RunsLine, RunsTask, EndsShowing, fault_line, status_of};
 ghost use Rattle.jp_command.specs.Private.Asked.{TellsFault};
 ghost use Rattle.jp_command.specs.Private.Kept.{IsFaultOfBytes, KeepsRead};
 ghost use Rattle.jp_command.specs.Writes.{WritesByCalls};
@@ -59,7 +59,7 @@ pub fn run_line<R: Source, W: Output, E: Writer>(
 
 /// Writes help or the version, and answers the status.
 fn show<W: Output, E: Writer>(alloc: Global, error: &Error, output: &mut W, faults: &mut E) -> u8
-    ensures { Shows W.contents W.has_failed W.holds_back E.contents output.old output.new faults.old
+    ensures { EndsShowing W.contents W.has_failed W.holds_back E.contents output.old output.new faults.old
         faults.new result }
 {
     match write_shown(alloc, error, output) {

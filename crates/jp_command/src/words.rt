@@ -9,7 +9,7 @@ ghost use Rattle.clap.specs.declared.error.kind.ErrorKind.TheVariants.{MissingSu
 ghost use Rattle.jp_command.specs.CommandLine.{asked, asked_by, is_set, jp, profile_asked};
 ghost use Rattle.jp_command.specs.CommandLine.{query_app, task_app, task_called, with_flag};
 ghost use Rattle.jp_command.specs.CommandLine.{with_task};
-ghost use Rattle.jp_command.specs.Private.Asked.{IsNoCommand, parts_of};
+ghost use Rattle.jp_command.specs.Private.Asked.{HasNoTask, parts_of};
 
 use crate::help::{AFTER_HELP, BOTH, CANON, CHECK, CommandHelp, EVAL, PATHS};
 use crate::lines::Form;
@@ -202,7 +202,7 @@ pub(crate) fn read_words<'w>(alloc: Global, words: &'w [String]) -> Result<Asked
     ensures asked { IfOk result (λ found.
         asked (map string_bytes words.entry.now) ≡ Some (parts_of found)) }
     ensures refused { IfErr result (λ error. (kind_of error ≡ OutOfMemory)
-        ⊎ IsNoCommand (kind_of error) (map string_bytes words.entry.now)) }
+        ⊎ HasNoTask (kind_of error) (map string_bytes words.entry.now)) }
 {
     let matches = matches_of(alloc, words)?;
     match asked_in(&matches) {

@@ -7,7 +7,7 @@ use Rattle.jp_check.specs.declared.profile.Profile.{Profile}
 use Rattle.jp_document.specs.declared.fault.DocumentFault.{DocumentFault}
 use Rattle.jp_query.specs.declared.refusal.Refusal.{Refusal}
 use Rattle.jp_command.specs.CommandLine.{asked, jp}
-use Rattle.jp_command.specs.Help.{IsAnswered}
+use Rattle.jp_command.specs.Help.{IsClapsAnswer}
 use Rattle.jp_command.specs.Line.{TellsExplained, TellsMisread, fault_line}
 use Rattle.jp_command.specs.Output.{AppendsPrefix}
 use Rattle.jp_command.specs.declared.fault.Fault.{Fault}
@@ -19,8 +19,8 @@ abbrev pub parts_of : Asked → Task × Text × Profile × Bool
 parts_of asked = (asked.task, asked.query.now, asked.profile, asked.is_explaining)
 
 -- the words ask for nothing, and clap answers them with an error of this kind
-abbrev pub IsNoCommand : ErrorKind → List Text → Type 0
-IsNoCommand k words = (asked words ≡ None) × IsAnswered jp k words
+abbrev pub HasNoTask : ErrorKind → List Text → Type 0
+HasNoTask k words = (asked words ≡ None) × IsClapsAnswer jp k words
 
 -- the line of a fault is told, and where that is asked for, behind that of a refused query an
 -- explanation, and behind that of a refused document how these bytes are misread
