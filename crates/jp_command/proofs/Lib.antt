@@ -15,5 +15,6 @@ mod Flushes
 pub mod Headline
 pub mod Program
 mod Finished
+mod Helped
 pub mod Fronts
 pub mod Standard
