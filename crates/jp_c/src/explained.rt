@@ -13,6 +13,7 @@ ghost use Rattle.jp_c.specs.Outcome.{Answers};
 use crate::numbers::{part, profile};
 use crate::outcome::{Answered, Outcome, Report, tell};
 use jp_check::{Profile, read_query};
+use jp_explain::Surroundings::Library;
 use jp_explain::{Explanation, explain, explanation_text};
 use jp_query::{Refusal, RefusalKind};
 use jsonpath::FindFault;
@@ -112,7 +113,11 @@ fn refused_text(
 {
     match refusal.kind {
         RefusalKind::NoMemory => Err(AllocError),
-        _ => told(alloc, &explain(alloc, query, profile, refusal)?, part),
+        _ => told(
+            alloc,
+            &explain(alloc, query, profile, refusal, Library)?,
+            part,
+        ),
     }
 }
 

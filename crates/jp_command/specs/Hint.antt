@@ -3,7 +3,7 @@ use Rattle.std.specs.Prelude.{ℕ, Bool, false, ◌&&◌, ◌||◌, ◌==◌, Li
 use Rattle.std.specs.Option.{option_map_or}
 use Rattle.jp_json.specs.declared.misreading.Misreading.{Misreading}
 use Rattle.jp_json.specs.declared.reason.JsonReason.{JsonReason}
-use Rattle.jp_json.specs.declared.reason.JsonReason.TheVariants.{AfterValue, RecordSeparator}
+use Rattle.jp_json.specs.declared.reason.JsonReason.TheVariants.{AfterValue, Gzip, RecordSeparator, Utf16}
 use Rattle.jp_reading.specs.Characters.{double_quote, letter_f, letter_n, letter_t, minus}
 use Rattle.jp_reading.specs.Characters.{opening_brace, opening_bracket}
 use Rattle.jp_reading.specs.Numbers.{is_digit}
@@ -20,11 +20,13 @@ is_next_document column offset bytes =
     column == 1 && option_map_or begins_value (slice_get bytes offset) false
 
 -- by the reason, the column and the offset: where a value on a line of its own comes after the value, or the
--- bytes are a JSON text sequence (RFC 7464)
+-- bytes are a JSON text sequence (RFC 7464), compressed, or UTF-16
 abbrev pub hint_by : JsonReason → ℕ → ℕ → List ℕ → List ℕ
 hint_by AfterValue column offset bytes = if is_next_document column offset bytes
     then codes " Where each line holds a document, jp-lines reads them." else []
 hint_by RecordSeparator column offset bytes = codes " tr -d '\\036' takes it away."
+hint_by Gzip column offset bytes = codes " gzip -dc writes what it holds."
+hint_by Utf16 column offset bytes = codes " iconv -f UTF-16 -t UTF-8 writes it so."
 hint_by _ column offset bytes = []
 
 abbrev pub document_hint : Misreading → List ℕ → List ℕ

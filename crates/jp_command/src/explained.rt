@@ -15,6 +15,7 @@ use crate::fault::Fault;
 use crate::line::report;
 use crate::output::write_all;
 use jp_check::Profile;
+use jp_explain::Surroundings::Shell;
 use jp_explain::{Reason, explain, explain_expression, explanation_text};
 use jp_json::{JsonReason, Misreading, misreading_of};
 use jp_query::{Refusal, RefusalKind};
@@ -79,10 +80,10 @@ fn explanation(
 {
     match refusal.kind {
         RefusalKind::TextTooLong => {
-            let sentence = Reason::TextTooLong.sentence();
+            let sentence = Reason::TextTooLong.sentence(Shell);
             format!(in alloc; "{sentence}\n")
         }
-        _ => explanation_text(alloc, &explain(alloc, query, profile, refusal)?),
+        _ => explanation_text(alloc, &explain(alloc, query, profile, refusal, Shell)?),
     }
 }
 
@@ -134,11 +135,11 @@ fn expression_explanation(
 {
     match refusal.kind {
         RefusalKind::TextTooLong => {
-            let sentence = Reason::TextTooLong.sentence();
+            let sentence = Reason::TextTooLong.sentence(Shell);
             format!(in alloc; "{sentence}\n")
         }
         _ => {
-            let explanation = explain_expression(alloc, expression, profile, refusal)?;
+            let explanation = explain_expression(alloc, expression, profile, refusal, Shell)?;
             explanation_text(alloc, &explanation)
         }
     }
@@ -181,7 +182,7 @@ fn misread_line(alloc: Global, fault: &Fault, bytes: &[u8]) -> Result<Option<Str
     }
 }
 
-/// What is said more of bytes that show another form than one document, behind a space.
+/// What is said more in a shell of bytes that show another form than one document, behind a space.
 fn hint(misreading: &Misreading, bytes: &[u8]) -> &'static str
     ensures { result.now ≡ document_hint misreading.now bytes.now }
 {
@@ -190,6 +191,8 @@ fn hint(misreading: &Misreading, bytes: &[u8]) -> &'static str
             " Where each line holds a document, jp-lines reads them."
         }
         JsonReason::RecordSeparator => " tr -d '\\036' takes it away.",
+        JsonReason::Gzip => " gzip -dc writes what it holds.",
+        JsonReason::Utf16 => " iconv -f UTF-16 -t UTF-8 writes it so.",
         _ => "",
     }
 }

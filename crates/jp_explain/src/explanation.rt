@@ -12,6 +12,7 @@ use crate::reason::Reason;
 use crate::reasons::reason_of;
 use crate::shown::show;
 use crate::suggestion::suggestion;
+use crate::surroundings::Surroundings;
 use jp_canon::Writer;
 use jp_check::Profile;
 use jp_query::Refusal;
@@ -32,14 +33,14 @@ pub struct Explanation {
     pub width_before: usize,
     /// Why the query is refused.
     pub reason: Reason,
-    /// The sentence for the reason: one line of printable characters, in ASCII.
+    /// The sentence for the reason in the surroundings: one line of printable characters, in ASCII.
     pub sentence: &'static str,
     /// A query, or of an expression an expression, that is accepted in the profile, where it is plain what was
     /// meant. None of its characters is one that a terminal would not show.
     pub suggestion: Option<String>,
 }
 
-/// Explains the refusal of a query's text in the profile.
+/// Explains the refusal of a query's text in the profile to whoever asks in these surroundings.
 ///
 /// The place may be any byte: one within a character is the start of that character, and one after
 /// the text is its end. The reason is told by the refusal's kind and by what is at its place. The
@@ -52,6 +53,7 @@ pub fn explain(
     text: &str,
     profile: Profile,
     refusal: Refusal,
+    surroundings: Surroundings,
 ) -> Result<Explanation, AllocError>
     ensures place { IfOk result (IsPlacedAt (chars text.now) refusal.place) }
     ensures sentence { IfOk result (λ e. is_sentence e.sentence.now ≡ true) }
@@ -60,7 +62,7 @@ pub fn explain(
 {
     let suggestion = suggestion(alloc, text, profile, refusal)?;
     let reason = reason_at(alloc, text, refusal)?;
-    placed(alloc, text, refusal.place, reason, suggestion)
+    placed(alloc, text, refusal.place, reason, surroundings, suggestion)
 }
 
 /// Explains the refusal of an expression alone, as `read_filter` reads it, in the profile.
@@ -73,6 +75,7 @@ pub fn explain_expression(
     text: &str,
     profile: Profile,
     refusal: Refusal,
+    surroundings: Surroundings,
 ) -> Result<Explanation, AllocError>
     ensures place { IfOk result (IsPlacedAt (chars text.now) refusal.place) }
     ensures sentence { IfOk result (λ e. is_sentence e.sentence.now ≡ true) }
@@ -82,7 +85,7 @@ pub fn explain_expression(
     let (query, within) = as_query(alloc, text, refusal)?;
     let suggestion = expression_suggestion(alloc, query.as_str(), profile, within)?;
     let reason = reason_at(alloc, query.as_str(), within)?;
-    placed(alloc, text, refusal.place, reason, suggestion)
+    placed(alloc, text, refusal.place, reason, surroundings, suggestion)
 }
 
 /// The reason for which a query's text is refused.
@@ -92,12 +95,13 @@ fn reason_at(alloc: Global, text: &str, refusal: Refusal) -> Result<Reason, Allo
     Ok(reason_of(refusal.kind, front, rest))
 }
 
-/// What is told of that byte of the text, for the reason.
+/// What is told of that byte of the text, for the reason in the surroundings.
 fn placed(
     alloc: Global,
     text: &str,
     place: usize,
     reason: Reason,
+    surroundings: Surroundings,
     suggestion: Option<String>,
 ) -> Result<Explanation, AllocError>
     ensures place { IfOk result (IsPlacedAt (chars text.now) place) }
@@ -115,7 +119,7 @@ fn placed(
         width_before: before.as_str().width(),
         line: joined(alloc, before.as_str(), after.as_str())?,
         reason,
-        sentence: reason.sentence(),
+        sentence: reason.sentence(surroundings),
         suggestion,
     })
 }

@@ -3,7 +3,7 @@
 //! ```text
 //! let text = "$[?@.a = 1]";
 //! let Err(refusal) = read_query(alloc, text, Standard);     // Syntax at 8
-//! let explanation = explain(alloc, text, Standard, refusal)?;
+//! let explanation = explain(alloc, text, Standard, refusal, Library)?;
 //! explanation.sentence;                     // Values are compared with `==` and `!=`.
 //! explanation.suggestion;                   // $[?@.a == 1]
 //! explanation_text(alloc, &explanation)?;   // the query, a caret, and these two, on four lines
@@ -29,9 +29,11 @@ mod reason;
 mod reasons;
 mod shown;
 mod suggestion;
+mod surroundings;
 mod told;
 mod written;
 
 pub use explanation::{Explanation, explain, explain_expression};
 pub use reason::Reason;
+pub use surroundings::Surroundings;
 pub use told::explanation_text;

@@ -3,6 +3,8 @@
 ghost use Rattle.std.specs.Prelude.{◌≡◌, true};
 ghost use Rattle.jp_reading.specs.Sentences.{is_sentence};
 
+use crate::surroundings::Surroundings;
+
 /// What is wrong with a query at the place of its refusal, as far as what is there tells.
 #[derive(Clone, Copy, Debug, PartialEq, Eq)]
 pub enum Reason {
@@ -202,20 +204,26 @@ pub enum Reason {
     IllTyped,
     /// `NoMemory`.
     NoMemory,
-    /// `TextTooLong`.
+    /// `TextTooLong`, which the programs alone say: a library takes each query.
     TextTooLong,
 }
 
 impl Reason {
-    /// The sentence for whoever typed the query, in ASCII and on one line.
-    pub fn sentence(self) -> &'static str
+    /// The sentence for whoever asked the query there, in ASCII and on one line.
+    pub fn sentence(self, surroundings: Surroundings) -> &'static str
+        ensures { is_sentence result.now ≡ true }
+    {
+        match surroundings {
+            Surroundings::Shell => self.shell_sentence(),
+            Surroundings::Library => self.library_sentence(),
+        }
+    }
+
+    /// The sentence that may speak of a shell, of a program's options and of its files.
+    fn shell_sentence(self) -> &'static str
         ensures { is_sentence result.now ≡ true }
     {
         match self {
-            Reason::Empty => "The query is empty: `$` alone selects the whole document.",
-            Reason::BlankFirst => {
-                "A query begins with `$`: no blank, newline or invisible character may stand before it."
-            },
             Reason::FileName => {
                 "A query begins with `$`, and stands before the names of files."
             },
@@ -225,12 +233,42 @@ impl Reason {
             Reason::ShellDot => {
                 "A query begins with `$`; if you typed one, the shell took it, so put the query in single quotes."
             },
+            Reason::Quoted => {
+                "A query begins with `$`: quotation marks around it are for the shell, and no part of it."
+            },
+            Reason::BracketName => {
+                "A name in brackets needs quotes (inside the shell's single quotes, double ones)."
+            },
+            Reason::Distinct => {
+                "`distinct` is a function of the extended profile alone: give the option --extended."
+            },
+            Reason::UnknownFunction => {
+                "There is no such function: there are length, count, match, search and value, and with --extended distinct."
+            },
+            _ => self.library_sentence(),
+        }
+    }
+
+    /// The sentence that speaks of the query alone.
+    fn library_sentence(self) -> &'static str
+        ensures { is_sentence result.now ≡ true }
+    {
+        match self {
+            Reason::Empty => "The query is empty: `$` alone selects the whole document.",
+            Reason::BlankFirst => {
+                "A query begins with `$`: no blank, newline or invisible character may stand before it."
+            },
+            Reason::FileName => "A query begins with `$`: this looks like the name of a file.",
+            Reason::ShellNumber => {
+                "A query begins with `$`: an index stands behind it in brackets, as in `$[0]`."
+            },
+            Reason::ShellDot => "A query begins with `$`: it stands before the first dot.",
             Reason::CurrentNode => {
                 "A query begins with `$`: `@` is the current node, and stands in filters alone."
             },
             Reason::Braces => "A query begins with `$`: there are no braces around it.",
             Reason::Quoted => {
-                "A query begins with `$`: quotation marks around it are for the shell, and no part of it."
+                "A query begins with `$`: quotation marks around it are no part of it."
             },
             Reason::Alternative => {
                 "There is no `//` with a default: a path to nothing selects nothing."
@@ -261,9 +299,7 @@ impl Reason {
             Reason::Unequal => "`<>` is written `!=`.",
             Reason::DotNumber => "A number does not begin with a dot.",
             Reason::LastItem => "A negative index counts from the end: `[-1]` is the last item.",
-            Reason::BracketName => {
-                "A name in brackets needs quotes (inside the shell's single quotes, double ones)."
-            },
+            Reason::BracketName => "A name in brackets needs quotes.",
             Reason::And => "`and` is written `&&`.",
             Reason::Or => "`or` is written `||`.",
             Reason::Not => "`not` is written `!`.",
@@ -391,7 +427,7 @@ impl Reason {
             },
             Reason::IndexRange => "Indexes go from -9007199254740991 to 9007199254740991.",
             Reason::Distinct => {
-                "`distinct` is a function of the extended profile alone: give the option --extended."
+                "`distinct` is a function of the extended profile alone, and the query is read in the standard one."
             },
             Reason::LengthName => {
                 "The length of a text, an array or an object is `length(@.name)`."
@@ -399,7 +435,7 @@ impl Reason {
             Reason::NotCall => "`not` is written `!`.",
             Reason::Exists => "Whether there is such a node is tested by `@.name` alone.",
             Reason::UnknownFunction => {
-                "There is no such function: there are length, count, match, search and value, and with --extended distinct."
+                "There is no such function: there are length, count, match, search and value, and in the extended profile distinct."
             },
             Reason::ArgumentCount => {
                 "match and search take two arguments, and the other functions take one."

@@ -92,10 +92,8 @@ impl JsonReason {
     {
         match self {
             JsonReason::NotUtf8 => "The bytes here are no UTF-8.",
-            JsonReason::Utf16 => {
-                "This is UTF-16, and JSON is UTF-8: iconv -f UTF-16 -t UTF-8 writes it so."
-            }
-            JsonReason::Gzip => "This is compressed by gzip: gzip -dc writes what it holds.",
+            JsonReason::Utf16 => "This is UTF-16, and JSON is UTF-8.",
+            JsonReason::Gzip => "This is compressed by gzip.",
             JsonReason::ByteOrderMark => {
                 "A byte order mark stands before the value, and JSON has none."
             }

@@ -63,6 +63,8 @@ fn hint(reason: JsonReason) -> &'static str
             " A document ends with its line: jp eval '$' writes it on one."
         }
         JsonReason::RecordSeparator => " tr -d '\\036' takes it away.",
+        JsonReason::Gzip => " gzip -dc writes what it holds.",
+        JsonReason::Utf16 => " iconv -f UTF-16 -t UTF-8 writes it so.",
         _ => "",
     }
 }

@@ -13,6 +13,7 @@ mod tests_of_filters;
 
 use jp_check::Profile::Standard;
 use jp_check::{Profile, read_query};
+use jp_explain::Surroundings::Library;
 use jp_explain::{explain, explanation_text};
 use std::alloc::{AllocError, Global};
 use std::process::Abort;
@@ -62,6 +63,6 @@ fn wanted(
 fn told(alloc: Global, query: &str, profile: Profile) -> Result<String, AllocError> {
     match read_query(alloc, query, profile) {
         Ok(_) => String::from_str(alloc, "accepted"),
-        Err(refusal) => explanation_text(alloc, &explain(alloc, query, profile, refusal)?),
+        Err(refusal) => explanation_text(alloc, &explain(alloc, query, profile, refusal, Library)?),
     }
 }

@@ -56,12 +56,12 @@ pub const FORMS: &[Misread] = &[
     (
         b"\x1f\x8b\x08\0\0\0\0\0\0\x03",
         "NotJson",
-        "line 1, column 1: This is compressed by gzip: gzip -dc writes what it holds.",
+        "line 1, column 1: This is compressed by gzip. gzip -dc writes what it holds.",
     ),
     (
         b"\xff\xfe{\0}\0",
         "NotJson",
-        "line 1, column 1: This is UTF-16, and JSON is UTF-8: iconv -f UTF-16 -t UTF-8 writes it so.",
+        "line 1, column 1: This is UTF-16, and JSON is UTF-8. iconv -f UTF-16 -t UTF-8 writes it so.",
     ),
     (
         b"{\0}\0",

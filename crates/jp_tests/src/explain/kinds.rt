@@ -1,7 +1,7 @@
 //! Kinds of refusal and places that no reading of that text gives.
 
 use jp_check::Profile::Standard;
-use jp_explain::{Reason, explain};
+use jp_explain::{Reason, Surroundings, explain};
 use jp_query::{Refusal, RefusalKind};
 use std::alloc::Global;
 use std::process::Abort;
@@ -38,7 +38,7 @@ fn assert_kinds(rt: &impl Abort, alloc: Global, text: &str, rows: &[Row]) -> Res
             kind: *kind,
             place: *place,
         };
-        let told = explain(alloc, text, Standard, refusal)?;
+        let told = explain(alloc, text, Standard, refusal, Surroundings::Library)?;
         let is_alone = told.suggestion.is_none();
         let place = (told.line_number, told.column, told.width_before);
         assert_eq!(rt; (told.reason, place, is_alone), (*reason, *found, true));

@@ -13,19 +13,19 @@ pub const ROWS: &[Row] = &[
     (
         "$.store[book][0][title]",
         "        ^",
-        "A name in brackets needs quotes (inside the shell's single quotes, double ones).",
+        "A name in brackets needs quotes.",
         "$.store[\"book\"][0][\"title\"]",
     ),
     (
         "$[my-name]",
         "  ^",
-        "A name in brackets needs quotes (inside the shell's single quotes, double ones).",
+        "A name in brackets needs quotes.",
         "$[\"my-name\"]",
     ),
     (
         "$[a, b]",
         "  ^",
-        "A name in brackets needs quotes (inside the shell's single quotes, double ones).",
+        "A name in brackets needs quotes.",
         "$[\"a\", \"b\"]",
     ),
     (
@@ -241,13 +241,13 @@ pub const ROWS: &[Row] = &[
     (
         "$.日本[日]",
         "       ^",
-        "A name in brackets needs quotes (inside the shell's single quotes, double ones).",
+        "A name in brackets needs quotes.",
         "$.日本[\"日\"]",
     ),
     (
         "$[a\u{301}]",
         "  ^",
-        "A name in brackets needs quotes (inside the shell's single quotes, double ones).",
+        "A name in brackets needs quotes.",
         "$[\"a\u{301}\"]",
     ),
 ];

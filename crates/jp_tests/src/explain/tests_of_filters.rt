@@ -114,7 +114,7 @@ pub const ROWS: &[Row] = &[
     (
         "$[?distinct(@.a)]",
         "   ^",
-        "`distinct` is a function of the extended profile alone: give the option --extended.",
+        "`distinct` is a function of the extended profile alone, and the query is read in the standard one.",
         "",
     ),
     (
@@ -138,7 +138,7 @@ pub const ROWS: &[Row] = &[
     (
         "$[?foo(@.a)]",
         "   ^",
-        "There is no such function: there are length, count, match, search and value, and with --extended distinct.",
+        "There is no such function: there are length, count, match, search and value, and in the extended profile distinct.",
         "",
     ),
     (
