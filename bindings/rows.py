@@ -23,7 +23,7 @@ answered; what it does not say of the answer is not looked at.
     column      of the document, in characters from 1
     at          the path of the number that is not whole, or empty
     reason      the name of the reason, in the engine's sources; of a document the engine tells it too
-    sentence    the engine's sentence for that reason
+    sentence    the engine's sentence for that reason, as it is told to the callers of a library
     suggestion  a query that is accepted, or empty
     not         languages that can't run the row, each with the reason: c, go, java, node, page, python, rust
 
