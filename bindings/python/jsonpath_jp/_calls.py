@@ -171,6 +171,14 @@ def _misreading(document: bytes) -> Tuple[Any, ...]:
 
 _sentences: Dict[str, Optional[str]] = {}
 
+
+@with_room
+def beyond_float() -> Tuple[str, Optional[str]]:
+    """The name of the reason of a number that is too large for a float, and the sentence for it."""
+    _, _, _, reason, sentence, _ = _misreading(b"1e400")
+    return reason, sentence
+
+
 _BY_LINES = "Where each line is a document (JSON Lines), ask one after another: for line in file: query.find(line)"
 
 

@@ -4,9 +4,10 @@
 //! let text = "$[?@.a = 1]";
 //! let Err(refusal) = read_query(alloc, text, Standard);     // Syntax at 8
 //! let explanation = explain(alloc, text, Standard, refusal, Library)?;
-//! explanation.sentence;                     // Values are compared with `==` and `!=`.
+//! explanation.reason;                       // Equals
+//! explanation.sentence;                     // what is told for it in a library
 //! explanation.suggestion;                   // $[?@.a == 1]
-//! explanation_text(alloc, &explanation)?;   // the query, a caret, and these two, on four lines
+//! explanation_text(alloc, &explanation)?;   // the query, a caret, and the last two, on four lines
 //! ```
 //!
 //! The contract for the crates above: `explain` tells the line, the column and the width before the

@@ -14,7 +14,7 @@ use std::alloc::{AllocError, Global};
 /// ```text
 ///   $[?@.a = 1]
 ///           ^
-/// Values are compared with `==` and `!=`.
+/// (the sentence)
 /// Try: $[?@.a == 1]
 /// ```
 ///

@@ -3,7 +3,7 @@
 //! ```text
 //! let told = find_misreading(alloc, b"{\"a\": [1,]}")?;   // Some(..)
 //! told.offset;               // 9, in line 1 and column 10
-//! told.sentence;             // No comma may come before a closing bracket.
+//! told.reason;               // TrailingComma, which told.sentence has in words
 //! ```
 //!
 //! The contract for the crates above: `find_misreading` answers None only for a document, and else a

@@ -36,8 +36,8 @@ pub struct Misreading {
     pub path: Option<String>,
 }
 
-/// The place, the path of a number, and the sentence, as `line 1, column 4: No comma may come before a
-/// closing bracket.`
+/// The place, the path of a number, and the sentence, which stands behind `line 2, column 7, at $['b'][0]: `, or
+/// without a path behind `line 1, column 4: `.
 impl fmt::Display for Misreading {
     ghost use Rattle.std.specs.Prelude.{Some};
     ghost use Rattle.jp_json.specs.Told.{misreading_text};

@@ -158,7 +158,8 @@ const OTHER_FORMS: &[OtherForm] = &[
 
 #[test]
 fn tells_which_other_form_a_line_shows(rt: HostRuntime) -> Result<(), AllocError> {
-    for (line, column, reason, more) in OTHER_FORMS {
+    for row in OTHER_FORMS {
+        let (line, column, reason, more) = *row;
         let sentence = reason.sentence();
         let why = format!(in rt.alloc(); "{column}: {sentence}{more}\n")?;
         for size in [1, 2, 3, 7, 100] {

@@ -99,12 +99,13 @@ fn level_128_is_one_too_many(rt: HostRuntime) -> Result<(), Fail> {
 #[test]
 fn is_told_in_one_line(rt: HostRuntime) -> Result<(), Fail> {
     let alloc = rt.alloc();
-    for (bytes, place, reason, name) in LINES {
+    for row in LINES {
+        let (bytes, place, reason, name) = *row;
         let told = find_misreading(alloc, bytes)?.ok_or("a document")?;
         let sentence = reason.sentence();
         let wanted = format!(in alloc; "{place}: {sentence}")?;
         assert_eq!(rt; format!(in alloc; "{told}")?.as_str(), wanted.as_str());
-        assert_eq!(rt; told.reason.name(), *name);
+        assert_eq!(rt; told.reason.name(), name);
     }
     Ok(())
 }
