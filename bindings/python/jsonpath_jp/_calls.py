@@ -171,14 +171,6 @@ def _misreading(document: bytes) -> Tuple[Any, ...]:
 
 _sentences: Dict[str, Optional[str]] = {}
 
-
-@with_room
-def beyond_float() -> Tuple[str, Optional[str]]:
-    """The name of the reason of a number that is too large for a float, and the sentence for it."""
-    _, _, _, reason, sentence, _ = _misreading(b"1e400")
-    return reason, sentence
-
-
 _BY_LINES = "Where each line is a document (JSON Lines), ask one after another: for line in file: query.find(line)"
 
 
@@ -192,6 +184,13 @@ def _part_of_misreading(document: bytes, part: int, place: Place) -> Optional[st
     if report.status == _numbers.NO_MEMORY:
         raise MemoryError(_NO_MEMORY_TEXT)
     return text if report.status == _numbers.DONE else None
+
+
+@with_room
+def beyond_float() -> Tuple[str, Optional[str]]:
+    """The name of the reason of a number that is too large for a float, and the sentence for it."""
+    _, _, _, reason, sentence, _ = _misreading(b"1e400")
+    return reason, sentence
 
 
 def encoded(query: str) -> bytes:
