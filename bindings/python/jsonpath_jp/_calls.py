@@ -186,6 +186,13 @@ def _part_of_misreading(document: bytes, part: int, place: Place) -> Optional[st
     return text if report.status == _numbers.DONE else None
 
 
+@with_room
+def beyond_float() -> Tuple[str, Optional[str]]:
+    """The name of the reason of a number that is too large for a float, and the sentence for it."""
+    _, _, _, reason, sentence, _ = _misreading(b"1e400")
+    return reason, sentence
+
+
 def encoded(query: str) -> bytes:
     # Half of a surrogate pair becomes bytes that are no UTF-8, and so the query is refused there.
     return query.encode("utf-8", "surrogatepass")

@@ -7,6 +7,7 @@ import os
 from collections import abc
 from typing import Any, Callable, List, NoReturn, Optional, Tuple, Union
 
+from ._calls import beyond_float
 from ._errors import DocumentError, printable
 from ._orjson import bytes_by_orjson
 from ._paths import Step, path_of
@@ -121,8 +122,8 @@ def _refuse_digits(number: int, steps: List[Step]) -> None:
         int.__repr__(number)
     except ValueError:
         # Python writes so many digits in no text, whatever may be read there.
-        sentence = "This number is too large for a float of 64 bits."
-        raise DocumentError("NotJson", path_of(steps), reason="BeyondFloat", sentence=sentence) from None
+        reason, sentence = beyond_float()
+        raise DocumentError("NotJson", path_of(steps), reason=reason, sentence=sentence) from None
 
 
 def _refuse_members(value: dict, default: Default, steps: List[Step], above: Tuple[int, ...]) -> None:

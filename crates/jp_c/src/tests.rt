@@ -6,6 +6,9 @@ use crate::{
     Handle, Limit, Place, Question, Report, jp_canon, jp_check, jp_document_new, jp_eval,
     jp_eval_many, jp_explain, jp_explain_document, jp_kind_name, jp_query_new, jp_version,
 };
+use jp_explain::Reason;
+use jp_explain::Surroundings::Library;
+use jp_json::JsonReason;
 use std::alloc::Global;
 use std::test::Fail;
 
@@ -124,18 +127,14 @@ fn checks_in_a_profile(rt: HostRuntime) {
 }
 
 #[test]
-fn explains_what_is_refused(rt: HostRuntime) {
-    let whole =
-        b"  $[?@.a = 1]\n          ^\nValues are compared with `==` and `!=`.\nTry: $[?@.a == 1]\n";
+fn explains_what_is_refused(rt: HostRuntime) -> Result<(), Fail> {
+    let sentence = Reason::Equals.sentence(Library);
+    let whole = format!(in rt.alloc();
+        "  $[?@.a = 1]\n          ^\n{sentence}\nTry: $[?@.a == 1]\n"
+    )?;
     let rows: [(&[u8], u32, u32, u32, &[u8]); 8] = [
-        (b"$[?@.a = 1]", 0, 0, 0, whole),
-        (
-            b"$[?@.a = 1]",
-            0,
-            1,
-            0,
-            b"Values are compared with `==` and `!=`.",
-        ),
+        (b"$[?@.a = 1]", 0, 0, 0, whole.as_bytes()),
+        (b"$[?@.a = 1]", 0, 1, 0, sentence.as_bytes()),
         (b"$[?@.a = 1]", 0, 2, 0, b"$[?@.a == 1]"),
         (b"$.a", 0, 0, 0, b""),
         (b"$[?distinct(@.*)]", 1, 1, 0, b""),
@@ -150,42 +149,29 @@ fn explains_what_is_refused(rt: HostRuntime) {
         assert_eq!(rt; (status, report.length), (expected, text.len()));
         assert_eq!(rt; out.get(..report.length).unwrap_or(&[]), text);
     }
+    Ok(())
 }
 
 /// A document, a part, and what is told: the status, the place, and the text.
-type DocumentRow = (
-    &'static [u8],
-    u32,
-    u32,
-    (usize, usize, usize),
-    &'static [u8],
-);
+type DocumentRow<'a> = (&'static [u8], u32, u32, (usize, usize, usize), &'a [u8]);
 
 #[test]
-fn explains_what_is_no_document(rt: HostRuntime) {
-    let rows: [DocumentRow; 9] = [
-        (
-            b"[1,\n]",
-            0,
-            0,
-            (4, 2, 1),
-            b"line 2, column 1: No comma may come before a closing bracket.\n",
-        ),
+fn explains_what_is_no_document(rt: HostRuntime) -> Result<(), Fail> {
+    let comma = JsonReason::TrailingComma.sentence();
+    let fraction = JsonReason::HasFraction.sentence();
+    let of_comma = format!(in rt.alloc(); "line 2, column 1: {comma}\n")?;
+    let of_fraction = format!(in rt.alloc(); "line 1, column 9, at $['a'][1]: {fraction}\n")?;
+    let rows: [DocumentRow<'_>; 9] = [
+        (b"[1,\n]", 0, 0, (4, 2, 1), of_comma.as_bytes()),
         (
             "[\"\u{e9}\",]".as_bytes(),
             1,
             0,
             (6, 1, 6),
-            b"No comma may come before a closing bracket.",
+            comma.as_bytes(),
         ),
         (b"[1,\n]", 2, 0, (4, 2, 1), b"TrailingComma"),
-        (
-            b"{\"a\":[0,2.5]}",
-            0,
-            0,
-            (8, 1, 9),
-            b"line 1, column 9, at $['a'][1]: A number with a fraction or an exponent is no whole number.\n",
-        ),
+        (b"{\"a\":[0,2.5]}", 0, 0, (8, 1, 9), of_fraction.as_bytes()),
         (b"[-0]", 2, 0, (1, 1, 2), b"NegativeZero"),
         (b"[\xff", 2, 0, (1, 1, 2), b"NotUtf8"),
         (b"", 2, 0, (0, 1, 1), b"Empty"),
@@ -219,6 +205,7 @@ fn explains_what_is_no_document(rt: HostRuntime) {
         );
         assert_eq!(rt; out.get(..report.length).unwrap_or(&[]), text);
     }
+    Ok(())
 }
 
 #[test]

@@ -9,28 +9,27 @@ use super::devices::Drip;
 use super::rows::{assert_ended, words};
 use super::texts::nested;
 use jp_command::{Device, run_line};
+use jp_explain::Reason;
+use jp_explain::Surroundings::Shell;
+use jp_json::JsonReason;
 use std::alloc::{AllocError, Global};
 use std::process::Abort;
 use std::test::Fail;
 
-/// A query as a new user types it, its refusal, how many columns stand before its place, the sentence,
+/// A query as a new user types it, its refusal, how many columns stand before its place, the reason,
 /// and what to try instead, if there is a suggestion.
-pub type Explained = (
-    &'static str,
-    &'static str,
-    usize,
-    &'static str,
-    &'static str,
-);
+pub type Explained = (&'static str, &'static str, usize, Reason, &'static str);
 
-/// What is told of a refused query.
+/// What is told of a refused query, of which that line is shown.
 fn told(
     alloc: Global,
-    (query, refusal, width, sentence, suggestion): Explained,
+    line: &str,
+    (_, refusal, width, reason, suggestion): Explained,
 ) -> Result<String, AllocError> {
     let spaces = " ".repeat(alloc, width)?;
+    let sentence = reason.sentence(Shell);
     let mut text = format!(in alloc;
-        "query refused: {refusal}\n  {query}\n  {spaces}^\n{sentence}\n"
+        "query refused: {refusal}\n  {line}\n  {spaces}^\n{sentence}\n"
     )?;
     if !suggestion.is_empty() {
         write!(text, "Try: {suggestion}\n")?;
@@ -51,7 +50,7 @@ fn explains_a_refused_query_where_that_is_asked_for(rt: HostRuntime) -> Result<(
 /// Asserts what each subcommand tells of a query with the flag, and that without it one line is told.
 fn assert_explained(rt: &impl Abort, alloc: Global, row: Explained) -> Result<(), Fail> {
     let (query, refusal, ..) = row;
-    let text = told(alloc, row)?;
+    let text = told(alloc, query, row)?;
     let line = format!(in alloc; "query refused: {refusal}\n")?;
     for subcommand in ["check", "canon", "eval", "paths", "both"] {
         let explaining = ["jp", subcommand, "--explain", query];
@@ -63,6 +62,42 @@ fn assert_explained(rt: &impl Abort, alloc: Global, row: Explained) -> Result<()
     Ok(())
 }
 
+/// Words of `jp check`, of which that line is shown.
+type Shown = (&'static [&'static str], &'static str, Explained);
+
+const SHOWN: &[Shown] = &[
+    (
+        &["jp", "check", "$.a\n", "--explain"],
+        "$.a\\n",
+        ("$.a\n", "Syntax at 4", 5, Reason::BlankLast, "$.a"),
+    ),
+    (
+        &["jp", "check", "--explain", "$.a\n[name]"],
+        "[name]",
+        (
+            "$.a\n[name]",
+            "Syntax at 5",
+            1,
+            Reason::BracketName,
+            "$['a']['name']",
+        ),
+    ),
+];
+
+#[test]
+fn shows_one_line_of_a_query(rt: HostRuntime) -> Result<(), Fail> {
+    let alloc = rt.alloc();
+    for (words, line, row) in SHOWN {
+        let text = told(alloc, line, *row)?;
+        assert_ended(&rt, alloc, words, b"".as_slice(), (1, "", text.as_str()))?;
+    }
+    let long = nested(alloc, ("$", ".a", 524_288, ""), ("", ""))?;
+    let line = ["jp", "eval", "--explain", long.as_str()];
+    let sentence = Reason::TextTooLong.sentence(Shell);
+    let text = format!(in alloc; "query refused: TextTooLong at 0\n{sentence}\n")?;
+    assert_ended(&rt, alloc, &line, b"".as_slice(), (1, "", text.as_str()))
+}
+
 /// Words, an input, and how that ends: the status, and what is written to either output.
 type Line = (
     &'static [&'static str],
@@ -70,30 +105,8 @@ type Line = (
     (u8, &'static str, &'static str),
 );
 
-/// What is told of lines, and of runs that the flag adds nothing to.
+/// Runs that the flag adds nothing to.
 const LINES: &[Line] = &[
-    (
-        &["jp", "check", "$.a\n", "--explain"],
-        "",
-        (
-            1,
-            "",
-            "query refused: Syntax at 4\n  $.a\\n\n       ^\n\
-            A query ends with its last segment: \
-            no blank, newline or invisible character may stand after it.\nTry: $.a\n",
-        ),
-    ),
-    (
-        &["jp", "check", "--explain", "$.a\n[name]"],
-        "",
-        (
-            1,
-            "",
-            "query refused: Syntax at 5\n  [name]\n   ^\n\
-            A name in brackets needs quotes (inside the shell's single quotes, double ones).\n\
-            Try: $['a']['name']\n",
-        ),
-    ),
     (
         &[
             "jp",
@@ -118,26 +131,27 @@ const LINES: &[Line] = &[
 ];
 
 #[test]
-fn shows_one_line_of_a_query_and_explains_nothing_else(rt: HostRuntime) -> Result<(), Fail> {
+fn explains_nothing_that_is_accepted(rt: HostRuntime) -> Result<(), Fail> {
     for (line, document, ended) in LINES {
         assert_ended(&rt, rt.alloc(), line, document.as_bytes(), *ended)?;
     }
-    let long = nested(rt.alloc(), ("$", ".a", 524_288, ""), ("", ""))?;
-    let line = ["jp", "eval", "--explain", long.as_str()];
-    let told = "query refused: TextTooLong at 0\nThe query is longer than the program takes.\n";
-    assert_ended(&rt, rt.alloc(), &line, b"".as_slice(), (1, "", told))
+    Ok(())
 }
 
 #[test]
 fn writes_no_more_of_an_explanation_after_a_write_that_failed(rt: HostRuntime) -> Result<(), Fail> {
     let alloc = rt.alloc();
-    let query = told(alloc, filters::FILTERS[0])?;
+    let row = filters::FILTERS[0];
+    let query = told(alloc, row.0, row)?;
     let check = ["jp", "check", "--explain", "$[(@.a)]"];
     assert_stops(&rt, alloc, &check, "", (1, query.as_str()))?;
-    let document = "document refused: NotJson\n\
-        line 1, column 4: No comma may come before a closing bracket.\n";
+    let place = "line 1, column 4";
+    let document = misread(
+        alloc,
+        (b"[1,]", "NotJson", place, JsonReason::TrailingComma, ""),
+    )?;
     let eval = ["jp", "eval", "--explain", "$"];
-    assert_stops(&rt, alloc, &eval, "[1,]", (3, document))
+    assert_stops(&rt, alloc, &eval, "[1,]", (3, document.as_str()))
 }
 
 /// Asserts that of what is told as much is written as comes before a write that fails, which is the
@@ -177,15 +191,21 @@ fn explains_a_refused_document_where_that_is_asked_for(rt: HostRuntime) -> Resul
     Ok(())
 }
 
+/// What is told of bytes that are no document.
+fn misread(
+    alloc: Global,
+    (_, fault, place, reason, more): documents::Misread,
+) -> Result<String, AllocError> {
+    let sentence = reason.sentence();
+    format!(in alloc; "document refused: {fault}\n{place}: {sentence}{more}\n")
+}
+
 /// Asserts what each subcommand that reads a document tells of it with the flag, and that without it
 /// one line is told: of queries that name a location, and of others.
-fn assert_misread(
-    rt: &impl Abort,
-    alloc: Global,
-    (bytes, fault, misreading): documents::Misread,
-) -> Result<(), Fail> {
+fn assert_misread(rt: &impl Abort, alloc: Global, row: documents::Misread) -> Result<(), Fail> {
+    let (bytes, fault, ..) = row;
     let line = format!(in alloc; "document refused: {fault}\n")?;
-    let text = format!(in alloc; "{line}{misreading}\n")?;
+    let text = misread(alloc, row)?;
     for subcommand in ["eval", "paths", "both"] {
         for query in ["$.a", "$", "$..a"] {
             let explaining = ["jp", subcommand, query, "--explain"];
@@ -199,14 +219,13 @@ fn assert_misread(
 
 #[test]
 fn tells_where_a_document_nests_too_deep(rt: HostRuntime) -> Result<(), Fail> {
-    let deep = nested(rt.alloc(), ("", "[", 128, ""), ("]", ""))?;
-    let told = "document refused: NotJson\nline 1, column 128: \
-        More than 127 arrays and objects are inside one another.\n";
-    assert_ended(
-        &rt,
-        rt.alloc(),
-        &["jp", "paths", "--explain", "$..a"],
-        deep.as_bytes(),
-        (3, "", told),
-    )
+    let alloc = rt.alloc();
+    let deep = nested(alloc, ("", "[", 128, ""), ("]", ""))?;
+    let place = "line 1, column 128";
+    let text = misread(
+        alloc,
+        (b"", "NotJson", place, JsonReason::TooManyLevels, ""),
+    )?;
+    let line = ["jp", "paths", "--explain", "$..a"];
+    assert_ended(&rt, alloc, &line, deep.as_bytes(), (3, "", text.as_str()))
 }

@@ -2,7 +2,9 @@
 
 use super::devices::{Alone, Narrow, Trickle};
 use super::programs::{assert_ends, words};
+use super::refusals::told;
 use jp_command::Device;
+use jp_explain::Reason;
 use jp_lines::run_program;
 use std::alloc::AllocError;
 use std::test::Fail;
@@ -147,10 +149,17 @@ fn queries_share_the_steps_of_a_document(rt: HostRuntime) -> Result<(), AllocErr
 
 #[test]
 fn reads_all_queries_before_the_input(rt: HostRuntime) -> Result<(), AllocError> {
-    let told = "query refused: Syntax at 4\n  $.b[\n      ^\n\
-        In brackets stand names in quotes, indexes, slices, `*`, or `?` and a filter.\n";
+    let refused = ("$.b[", "Syntax at 4", 4, Reason::InBrackets, "");
+    let told = told(rt.alloc(), refused.0, refused)?;
     let line = ["jp-lines", "columns", "--names", "$.a", "$.b[", "$.c["];
-    assert_ends(&rt, rt.alloc(), &line, "1\n", true, (1, "", told, 0))
+    assert_ends(
+        &rt,
+        rt.alloc(),
+        &line,
+        "1\n",
+        true,
+        (1, "", told.as_str(), 0),
+    )
 }
 
 #[test]

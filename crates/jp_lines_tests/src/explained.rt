@@ -4,6 +4,7 @@ use super::devices::{Alone, Narrow, Trickle};
 use super::programs::{assert_ends, words};
 use jp_check::Profile::Standard;
 use jp_command::Device;
+use jp_json::JsonReason;
 use jp_limit::OutputLimit;
 use jp_lines::{Options, Wanted, run_lines, run_program};
 use std::alloc::{AllocError, Global};
@@ -14,17 +15,22 @@ use std::process::Abort;
 const LINES: &str = "{\"a\":1}\n\n{\"a\": [1,]}\n[1.5]\n{\"a\":\r\n{\"a\":2}";
 
 /// What is told of the first of them that is refused.
-const FIRST: &str = "line 3: document refused: NotJson\n\
-    line 3, column 10: No comma may come before a closing bracket.\n";
+fn told_of_first(alloc: Global) -> Result<String, AllocError> {
+    let sentence = JsonReason::TrailingComma.sentence();
+    format!(in alloc; "line 3: document refused: NotJson\nline 3, column 10: {sentence}\n")
+}
 
 /// What is told of all.
-const ALL: &str = "line 3: document refused: NotJson\n\
-    line 3, column 10: No comma may come before a closing bracket.\n\
-    line 4: document refused: NotWhole at $[0]\n\
-    line 4, column 2, at $[0]: A number with a fraction or an exponent is no whole number.\n\
-    line 5: document refused: NotJson\n\
-    line 5, column 7: The text ends within an object: its closing brace is missing. \
-    A document ends with its line: jp eval '$' writes it on one.\n";
+fn told_of_all(alloc: Global) -> Result<String, AllocError> {
+    let first = told_of_first(alloc)?;
+    let second = JsonReason::HasFraction.sentence();
+    let third = JsonReason::EndInObject.sentence();
+    format!(in alloc;
+        "{first}line 4: document refused: NotWhole at $[0]\nline 4, column 2, at $[0]: {second}\n\
+        line 5: document refused: NotJson\nline 5, column 7: {third} \
+        A document ends with its line: jp eval '$' writes it on one.\n"
+    )
+}
 
 /// What is told of all without the flag.
 const PLAIN: &str = "line 3: document refused: NotJson\n\
@@ -32,13 +38,23 @@ const PLAIN: &str = "line 3: document refused: NotJson\n\
 
 #[test]
 fn explains_lines_where_that_is_asked_for(rt: HostRuntime) -> Result<(), AllocError> {
+    let first = told_of_first(rt.alloc())?;
+    let all = told_of_all(rt.alloc())?;
     let runs: [(&[&str], &str, &str); 7] = [
-        (&["jp-lines", "eval", "--explain", "$.a"], "1\n", FIRST),
-        (&["jp-lines", "eval", "$..a", "--explain"], "1\n", FIRST),
+        (
+            &["jp-lines", "eval", "--explain", "$.a"],
+            "1\n",
+            first.as_str(),
+        ),
+        (
+            &["jp-lines", "eval", "$..a", "--explain"],
+            "1\n",
+            first.as_str(),
+        ),
         (
             &["jp-lines", "eval", "--explain", "--keep-going", "$.a"],
             "1\n2\n",
-            ALL,
+            all.as_str(),
         ),
         (
             &[
@@ -50,7 +66,7 @@ fn explains_lines_where_that_is_asked_for(rt: HostRuntime) -> Result<(), AllocEr
                 "$..a",
             ],
             "1\t$['a']\n6\t$['a']\n",
-            ALL,
+            all.as_str(),
         ),
         (
             &[
@@ -63,7 +79,7 @@ fn explains_lines_where_that_is_asked_for(rt: HostRuntime) -> Result<(), AllocEr
                 "$..a",
             ],
             "1\n1\n",
-            ALL,
+            all.as_str(),
         ),
         (
             &["jp-lines", "eval", "--keep-going", "$.a"],
@@ -82,62 +98,72 @@ fn explains_lines_where_that_is_asked_for(rt: HostRuntime) -> Result<(), AllocEr
     Ok(())
 }
 
-/// Lines that are no documents, and what is told of them.
-const OTHER_FORMS: [(&str, &str); 12] = [
+/// A line that is no document, the column, the reason, and what is said more, which begins with a space.
+type OtherForm = (&'static str, &'static str, JsonReason, &'static str);
+
+const OTHER_FORMS: &[OtherForm] = &[
     (
         "{\"a\":1} {\"a\":2}",
-        "column 9: Only blanks may come after the value. Each line holds one document.\n",
+        "column 9",
+        JsonReason::AfterValue,
+        " Each line holds one document.",
     ),
     (
         "1,",
-        "column 2: Only blanks may come after the value. Each line holds one document.\n",
+        "column 2",
+        JsonReason::AfterValue,
+        " Each line holds one document.",
     ),
     (
         "{",
-        "column 2: The text ends within an object: its closing brace is missing. \
-        A document ends with its line: jp eval '$' writes it on one.\n",
+        "column 2",
+        JsonReason::EndInObject,
+        " A document ends with its line: jp eval '$' writes it on one.",
     ),
     (
         "{\"a\":[1,",
-        "column 9: The text ends within an array: its closing bracket is missing. \
-        A document ends with its line: jp eval '$' writes it on one.\n",
+        "column 9",
+        JsonReason::EndInArray,
+        " A document ends with its line: jp eval '$' writes it on one.",
     ),
     (
         "\u{1e}{\"a\":1}",
-        "column 1: A record separator (RFC 7464) stands before the value, and JSON has none. \
-        tr -d '\\036' takes it away.\n",
+        "column 1",
+        JsonReason::RecordSeparator,
+        " tr -d '\\036' takes it away.",
     ),
     (
         "\u{1e}{\"a\":",
-        "column 1: A record separator (RFC 7464) stands before the value, and JSON has none. \
-        tr -d '\\036' takes it away.\n",
+        "column 1",
+        JsonReason::RecordSeparator,
+        " tr -d '\\036' takes it away.",
     ),
     (
         " \u{1e}{}",
-        "column 2: A record separator (RFC 7464) stands before the value, and JSON has none. \
-        tr -d '\\036' takes it away.\n",
+        "column 2",
+        JsonReason::RecordSeparator,
+        " tr -d '\\036' takes it away.",
     ),
-    (
-        "{\"a\":\u{a0}1}",
-        "column 6: A no-break space (U+00A0) stands here: JSON has plain spaces between its parts.\n",
-    ),
+    ("{\"a\":\u{a0}1}", "column 6", JsonReason::NoBreakSpace, ""),
     (
         "{\0\"\0a\0\"\0}\0",
-        "column 2: A null character stands here, as in UTF-16: JSON is UTF-8.\n",
+        "column 2",
+        JsonReason::NullCharacter,
+        "",
     ),
-    ("{\"a\":\u{1e}1}", "column 6: No value begins so.\n"),
-    ("@", "column 1: No value begins so.\n"),
-    (
-        "\u{feff}{}",
-        "column 1: A byte order mark stands before the value, and JSON has none.\n",
-    ),
+    ("{\"a\":\u{1e}1}", "column 6", JsonReason::Unexpected, ""),
+    ("@", "column 1", JsonReason::Unexpected, ""),
+    ("\u{feff}{}", "column 1", JsonReason::ByteOrderMark, ""),
 ];
 
 #[test]
 fn tells_which_other_form_a_line_shows(rt: HostRuntime) -> Result<(), AllocError> {
-    for (line, why) in OTHER_FORMS {
+    for row in OTHER_FORMS {
+        let (line, column, reason, more) = *row;
+        let sentence = reason.sentence();
+        let why = format!(in rt.alloc(); "{column}: {sentence}{more}\n")?;
         for size in [1, 2, 3, 7, 100] {
-            assert_second(&rt, rt.alloc(), line, why, size)?;
+            assert_second(&rt, rt.alloc(), line, why.as_str(), size)?;
         }
     }
     Ok(())
@@ -222,8 +248,10 @@ fn assert_whole(
 fn explains_lines_until_a_write_fails(rt: HostRuntime) -> Result<(), AllocError> {
     let going: [&str; 5] = ["jp-lines", "count", "--explain", "--keep-going", "$.a"];
     let stopping: [&str; 4] = ["jp-lines", "count", "--explain", "$.a"];
-    assert_prefixes(&rt, rt.alloc(), &going, ALL)?;
-    assert_prefixes(&rt, rt.alloc(), &stopping, FIRST)
+    let first = told_of_first(rt.alloc())?;
+    let all = told_of_all(rt.alloc())?;
+    assert_prefixes(&rt, rt.alloc(), &going, all.as_str())?;
+    assert_prefixes(&rt, rt.alloc(), &stopping, first.as_str())
 }
 
 /// Asserts that of what is told as much is written as comes before a write that fails, and no more.

@@ -23,6 +23,8 @@ mod limits;
 #[cfg(test)]
 mod programs;
 #[cfg(test)]
+mod refusals;
+#[cfg(test)]
 mod runs;
 #[cfg(test)]
 mod tallies;

@@ -1,7 +1,9 @@
 //! What the program writes and tells with each status.
 
 use super::devices::{Alone, Narrow, Trickle, Unflushed};
+use super::refusals::{Refused, told, too_long};
 use jp_command::Device;
+use jp_explain::Reason;
 use jp_lines::run_program;
 use std::alloc::{AllocError, Global};
 use std::process::Abort;
@@ -170,19 +172,23 @@ fn ends_with_the_status_of_its_run(rt: HostRuntime) -> Result<(), AllocError> {
         (5, "2\n", "read fault\n", 1),
     )?;
     let extended = ["jp-lines", "count", "$[?distinct(@[*])]"];
-    assert_ends(&rt, alloc, &extended, "[]\n", false, (1, "", UNKNOWN, 0))?;
+    let unknown = told(alloc, UNKNOWN.0, UNKNOWN)?;
+    let ended = (1, "", unknown.as_str(), 0);
+    assert_ends(&rt, alloc, &extended, "[]\n", false, ended)?;
     let long = long_query(alloc)?;
-    let too_long = ["jp-lines", "count", long.as_str()];
-    assert_ends(&rt, alloc, &too_long, "[]\n", false, (1, "", TOO_LONG, 0))
+    let line = ["jp-lines", "count", long.as_str()];
+    let told = too_long(alloc)?;
+    assert_ends(&rt, alloc, &line, "[]\n", false, (1, "", told.as_str(), 0))
 }
 
-/// What is told of a query that `Extended` alone accepts.
-const UNKNOWN: &str = "query refused: UnknownFunction at 3\n  $[?distinct(@[*])]\n     ^\n\
-    `distinct` is a function of the extended profile alone: give the option --extended.\n";
-
-/// What is told of a query that is too long.
-const TOO_LONG: &str =
-    "query refused: TextTooLong at 0\nThe query is longer than the program takes.\n";
+/// A query that `Extended` alone accepts.
+const UNKNOWN: Refused = (
+    "$[?distinct(@[*])]",
+    "UnknownFunction at 3",
+    3,
+    Reason::Distinct,
+    "",
+);
 
 /// A query of more than 2^20 bytes.
 fn long_query(alloc: Global) -> Result<String, AllocError> {
@@ -341,7 +347,8 @@ fn tells_where_the_names_of_files_go(rt: HostRuntime) -> Result<(), Fail> {
 
 #[test]
 fn explains_a_refused_query_until_a_write_fails(rt: HostRuntime) -> Result<(), AllocError> {
-    for room in 0..=UNKNOWN.len() {
+    let told = told(rt.alloc(), UNKNOWN.0, UNKNOWN)?;
+    for room in 0..=told.len() {
         let mut faults = Narrow::new(rt.alloc(), room);
         let ended = run_program(
             rt.alloc(),
@@ -351,7 +358,7 @@ fn explains_a_refused_query_until_a_write_fails(rt: HostRuntime) -> Result<(), A
             &mut Device::new(&mut faults),
         );
         assert_eq!(rt; ended, 1);
-        assert!(rt; UNKNOWN.as_bytes().get(..room) == Some(faults.taken.as_slice()));
+        assert!(rt; told.as_bytes().get(..room) == Some(faults.taken.as_slice()));
     }
     Ok(())
 }

@@ -1,5 +1,5 @@
 //! Wrong queries as they are typed by those who come from jq, JavaScript, Python, XPath, kubectl and
-//! the shell, with the place, the sentence and the suggestion of each.
+//! the shell, with the place, the reason and the suggestion of each.
 
 mod comparisons;
 mod ends;
@@ -14,14 +14,14 @@ mod tests_of_filters;
 use jp_check::Profile::Standard;
 use jp_check::{Profile, read_query};
 use jp_explain::Surroundings::Library;
-use jp_explain::{explain, explanation_text};
+use jp_explain::{Reason, explain, explanation_text};
 use std::alloc::{AllocError, Global};
 use std::process::Abort;
 use std::test::Fail;
 
-/// A query, the line with the caret below it, the sentence, and the suggestion, which is empty where
+/// A query, the line with the caret below it, the reason, and the suggestion, which is empty where
 /// there is none.
-pub type Row = (&'static str, &'static str, &'static str, &'static str);
+pub type Row = (&'static str, &'static str, Reason, &'static str);
 
 #[test]
 fn each_wrong_query_is_explained(rt: HostRuntime) -> Result<(), Fail> {
@@ -37,32 +37,51 @@ fn each_wrong_query_is_explained(rt: HostRuntime) -> Result<(), Fail> {
 
 /// Asserts that the query of each row is refused, and explained as the row says.
 fn assert_rows(rt: &impl Abort, alloc: Global, rows: &[Row]) -> Result<(), Fail> {
-    for (query, caret, sentence, suggestion) in rows {
-        let told = told(alloc, query, Standard)?;
-        let wanted = wanted(alloc, query, caret, (sentence, suggestion))?;
-        assert_eq!(rt; told.as_str(), wanted.as_str());
+    for row in rows {
+        assert_explained(rt, alloc, (row.0, Standard), *row)?;
     }
     Ok(())
 }
 
-/// The text of an explanation with these parts.
-fn wanted(
+/// Asserts that the query is refused in the profile, and explained as the row says, whose line is shown.
+fn assert_explained(
+    rt: &impl Abort,
     alloc: Global,
-    query: &str,
-    caret: &str,
-    (sentence, suggestion): (&str, &str),
-) -> Result<String, AllocError> {
+    (query, profile): (&str, Profile),
+    row: Row,
+) -> Result<(), Fail> {
+    let told = told(alloc, query, profile, row.2)?;
+    let wanted = wanted(alloc, row)?;
+    assert_eq!(rt; told.as_str(), wanted.as_str());
+    Ok(())
+}
+
+/// The text of an explanation with these parts.
+fn wanted(alloc: Global, (line, caret, reason, suggestion): Row) -> Result<String, AllocError> {
+    let sentence = reason.sentence(Library);
     if suggestion.is_empty() {
-        format!(in alloc; "  {query}\n  {caret}\n{sentence}\n")
+        format!(in alloc; "  {line}\n  {caret}\n{sentence}\n")
     } else {
-        format!(in alloc; "  {query}\n  {caret}\n{sentence}\nTry: {suggestion}\n")
+        format!(in alloc; "  {line}\n  {caret}\n{sentence}\nTry: {suggestion}\n")
     }
 }
 
-/// The text of the explanation of a query that is refused in the profile.
-fn told(alloc: Global, query: &str, profile: Profile) -> Result<String, AllocError> {
+/// The text of the explanation of a query that is refused in the profile for the reason.
+fn told(
+    alloc: Global,
+    query: &str,
+    profile: Profile,
+    reason: Reason,
+) -> Result<String, AllocError> {
     match read_query(alloc, query, profile) {
         Ok(_) => String::from_str(alloc, "accepted"),
-        Err(refusal) => explanation_text(alloc, &explain(alloc, query, profile, refusal, Library)?),
+        Err(refusal) => {
+            let explanation = explain(alloc, query, profile, refusal, Library)?;
+            if explanation.reason == reason {
+                explanation_text(alloc, &explanation)
+            } else {
+                String::from_str(alloc, "another reason")
+            }
+        }
     }
 }

@@ -1,6 +1,6 @@
 //! Bytes that are no documents, with the reason and the place of each.
 
-mod sentences;
+mod samples;
 mod syntax;
 mod values;
 
@@ -40,13 +40,10 @@ fn assert_rows(rt: &impl Abort, alloc: Global, rows: &[Row]) -> Result<(), Fail>
 }
 
 #[test]
-fn each_wrong_text_has_its_sentence(rt: HostRuntime) -> Result<(), Fail> {
-    for (bytes, sentence) in sentences::ROWS {
-        let told = match find_misreading(rt.alloc(), bytes)? {
-            Some(told) => told.sentence,
-            None => "",
-        };
-        assert_eq!(rt; told, *sentence);
+fn each_reason_has_a_text_and_its_sentence(rt: HostRuntime) -> Result<(), Fail> {
+    for (bytes, reason) in samples::ROWS {
+        let told = find_misreading(rt.alloc(), bytes)?.ok_or("a document")?;
+        assert_eq!(rt; (told.reason, told.sentence), (*reason, reason.sentence()));
     }
     Ok(())
 }
@@ -102,23 +99,29 @@ fn level_128_is_one_too_many(rt: HostRuntime) -> Result<(), Fail> {
 #[test]
 fn is_told_in_one_line(rt: HostRuntime) -> Result<(), Fail> {
     let alloc = rt.alloc();
-    for (bytes, wanted, name) in LINES {
+    for row in LINES {
+        let (bytes, place, reason, name) = *row;
         let told = find_misreading(alloc, bytes)?.ok_or("a document")?;
-        assert_eq!(rt; format!(in alloc; "{told}")?.as_str(), *wanted);
-        assert_eq!(rt; told.reason.name(), *name);
+        let sentence = reason.sentence();
+        let wanted = format!(in alloc; "{place}: {sentence}")?;
+        assert_eq!(rt; format!(in alloc; "{told}")?.as_str(), wanted.as_str());
+        assert_eq!(rt; told.reason.name(), name);
     }
     Ok(())
 }
 
-const LINES: &[(&[u8], &str, &str)] = &[
+/// Bytes, the place as it is told, the reason, and its name.
+const LINES: &[(&[u8], &str, JsonReason, &str)] = &[
     (
         b"[1,\n]",
-        "line 2, column 1: No comma may come before a closing bracket.",
+        "line 2, column 1",
+        JsonReason::TrailingComma,
         "TrailingComma",
     ),
     (
         b"{\"a\":[1e2]}",
-        "line 1, column 7, at $['a'][0]: A number with a fraction or an exponent is no whole number.",
+        "line 1, column 7, at $['a'][0]",
+        JsonReason::HasFraction,
         "HasFraction",
     ),
 ];

@@ -30,3 +30,5 @@ mod query;
 mod reading;
 #[cfg(test)]
 mod select;
+#[cfg(test)]
+mod sentences;

@@ -1,78 +1,99 @@
 //! Queries of several lines, and with characters that are not shown as they are, in each profile.
 
-use super::told;
+use super::{Row, assert_explained};
 use jp_check::Profile::{self, Extended, Standard};
-use std::alloc::Global;
-use std::process::Abort;
+use jp_explain::Reason;
 use std::test::Fail;
 
-/// A query, the profile in which it is refused, and the whole text of its explanation.
-const TEXTS: &[(&str, Profile, &str)] = &[
+/// A query, the profile in which it is refused, and what is told of it, with the line that is shown in place of the
+/// query.
+const TEXTS: &[(&str, Profile, Row)] = &[
     (
         "$.a[\n  ?@.b = 1\n]",
         Standard,
-        "    ?@.b = 1\n          ^\nValues are compared with `==` and `!=`.\nTry: $['a'][?@['b']==1]\n",
+        (
+            "  ?@.b = 1",
+            "        ^",
+            Reason::Equals,
+            "$['a'][?@['b']==1]",
+        ),
     ),
     (
         "$.a\n",
         Standard,
-        "  $.a\\n\n       ^\nA query ends with its last segment: no blank, newline or invisible character may stand after it.\nTry: $.a\n",
+        ("$.a\\n", "     ^", Reason::BlankLast, "$.a"),
     ),
     (
         "$\n.a\t",
         Standard,
-        "  .a\\t\n      ^\nA query ends with its last segment: no blank, newline or invisible character may stand after it.\nTry: $['a']\n",
+        (".a\\t", "    ^", Reason::BlankLast, "$['a']"),
     ),
     (
         "\u{feff}$.a",
         Standard,
-        "  \\ufeff$.a\n  ^\nA query begins with `$`: no blank, newline or invisible character may stand before it.\nTry: $.a\n",
+        ("\\ufeff$.a", "^", Reason::BlankFirst, "$.a"),
     ),
     (
         "$['\u{1b}[31m']",
         Standard,
-        "  $['\\u001b[31m']\n     ^\nA control character in quotes is written as an escape, such as \\n or \\u001b.\n",
+        ("$['\\u001b[31m']", "   ^", Reason::ControlCharacter, ""),
     ),
     (
         "$['\u{1f600}\u{202e}\u{9b}'].\u{e9}x = 1",
         Standard,
-        "  $['\u{1f600}\\u202e\\u009b'].\u{e9}x = 1\n                         ^\nTests stand in filters alone, as in `$[?@.name == 1]`.\n",
+        (
+            "$['\u{1f600}\\u202e\\u009b'].\u{e9}x = 1",
+            "                       ^",
+            Reason::OutsideFilter,
+            "",
+        ),
     ),
     (
         "$[?@.a ==\u{a0}1]",
         Standard,
-        "  $[?@.a ==\\u00a01]\n           ^\nAn invisible character, such as a no-break space, stands here.\nTry: $[?@.a == 1]\n",
+        (
+            "$[?@.a ==\\u00a01]",
+            "         ^",
+            Reason::Unseen,
+            "$[?@.a == 1]",
+        ),
     ),
     (
         "$[?@['\u{a0}x'] = 1\t]",
         Standard,
-        "  $[?@['\\u00a0x'] = 1\\t]\n                   ^\nValues are compared with `==` and `!=`.\nTry: $[?@['\\u00a0x']==1]\n",
+        (
+            "$[?@['\\u00a0x'] = 1\\t]",
+            "                 ^",
+            Reason::Equals,
+            "$[?@['\\u00a0x']==1]",
+        ),
     ),
     (
         "$[?count(distinct(@.a)) = 1]",
         Extended,
-        "  $[?count(distinct(@.a)) = 1]\n                           ^\nValues are compared with `==` and `!=`.\nTry: $[?count(distinct(@.a)) == 1]\n",
+        (
+            "$[?count(distinct(@.a)) = 1]",
+            "                         ^",
+            Reason::Equals,
+            "$[?count(distinct(@.a)) == 1]",
+        ),
     ),
     (
         "$[?count(distinct(@.a)) = 1]",
         Standard,
-        "  $[?count(distinct(@.a)) = 1]\n                           ^\nValues are compared with `==` and `!=`.\n",
+        (
+            "$[?count(distinct(@.a)) = 1]",
+            "                         ^",
+            Reason::Equals,
+            "",
+        ),
     ),
 ];
 
 #[test]
 fn lines_and_hidden_characters_are_shown(rt: HostRuntime) -> Result<(), Fail> {
-    assert_texts(&rt, rt.alloc(), TEXTS)
-}
-
-fn assert_texts(
-    rt: &impl Abort,
-    alloc: Global,
-    rows: &[(&str, Profile, &str)],
-) -> Result<(), Fail> {
-    for (query, profile, text) in rows {
-        let told = told(alloc, query, *profile)?;
-        assert_eq!(rt; told.as_str(), *text);
+    for (query, profile, row) in TEXTS {
+        assert_explained(&rt, rt.alloc(), (query, *profile), *row)?;
     }
     Ok(())
 }

@@ -1,0 +1,42 @@
+//! Bytes for each reason that some have.
+
+use jp_json::JsonReason;
+
+/// Bytes, and the reason.
+pub const ROWS: &[(&[u8], JsonReason)] = &[
+    (b"[1]\xc3", JsonReason::NotUtf8),
+    (b"\xef\xbb\xbf[]", JsonReason::ByteOrderMark),
+    (b"\xff\xfe[\0]\0", JsonReason::Utf16),
+    (b"\x1f\x8b\x08", JsonReason::Gzip),
+    (b"\x1e[]", JsonReason::RecordSeparator),
+    (b"{\0", JsonReason::NullCharacter),
+    (b"[1,\xc2\xa02]", JsonReason::NoBreakSpace),
+    (b" \n", JsonReason::Empty),
+    (b"[\"ab", JsonReason::EndInText),
+    (b"1.", JsonReason::EndInNumber),
+    (b"nul", JsonReason::EndInWord),
+    (b"[1, 2", JsonReason::EndInArray),
+    (b"{\"a\": 1", JsonReason::EndInObject),
+    (b"1 2", JsonReason::AfterValue),
+    (b"[1,,2]", JsonReason::MissingValue),
+    (b"{,}", JsonReason::MissingName),
+    (b"{\"a\" 1}", JsonReason::MissingColon),
+    (b"[1 2]", JsonReason::MissingComma),
+    (b"[\"a\":1]", JsonReason::StrayColon),
+    (b"[1,]", JsonReason::TrailingComma),
+    (b"[1}", JsonReason::WrongBracket),
+    (b"['a']", JsonReason::SingleQuote),
+    (b"{a:1}", JsonReason::UnquotedName),
+    (b"[1] // one", JsonReason::Comment),
+    (b"[None]", JsonReason::WrongWord),
+    (b"[.5]", JsonReason::WrongNumber),
+    (b"01", JsonReason::LeadingZero),
+    (b"\"a\nb\"", JsonReason::ControlCharacter),
+    (b"\"\\u12g4\"", JsonReason::WrongEscape),
+    (b"\"\\ud800\"", JsonReason::LoneSurrogate),
+    (b"[@]", JsonReason::Unexpected),
+    (b"1e400", JsonReason::BeyondFloat),
+    (b"1.5", JsonReason::HasFraction),
+    (b"-0", JsonReason::NegativeZero),
+    (b"18446744073709551616", JsonReason::OutOfRange),
+];
