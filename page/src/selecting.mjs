@@ -7,6 +7,7 @@ export class Selection {
   #marks;
   #places = null;
   #current = null;
+  #isOld = false;
 
   constructor(asker, list, marks) {
     this.#asker = asker;
@@ -24,9 +25,16 @@ export class Selection {
     this.#marks.show(null);
   }
 
+  /** Says whether the nodes are those of a former question: then nothing is done with them. */
+  setOld(isOld) {
+    this.#isOld = isOld;
+    this.#allow();
+  }
+
   /** Shows the nodes of a new answer, so many. */
   async show(count) {
     this.#places = this.#current = null;
+    this.#isOld = false;
     await this.#list.show(count);
     this.#tell();
     byId("order").disabled = false;
@@ -53,7 +61,7 @@ export class Selection {
 
   /** Goes to the next node, or by -1 to the previous one, and at an end to the other. */
   step(by) {
-    if (this.count > 0) {
+    if (this.count > 0 && !this.#isOld) {
       const from = this.#current ?? (by > 0 ? -1 : 0);
       this.goTo((from + by + this.count) % this.count);
     }
@@ -61,6 +69,9 @@ export class Selection {
 
   /** Makes the node at a place of the order the current one. */
   async goTo(place) {
+    if (this.#isOld) {
+      return;
+    }
     this.#current = place;
     this.#tell();
     await this.#list.setCurrent(place);
@@ -91,6 +102,12 @@ export class Selection {
     const all = counted(this.count, "selected value", "selected values");
     const at = this.#current === null ? all : `${spelled(this.#current + 1)} of ${spelled(this.count)} selected`;
     byId("current").textContent = this.count === 0 ? "" : at;
-    [byId("previous"), byId("next"), byId("copy"), byId("save")].forEach((it) => (it.disabled = this.count === 0));
+    this.#allow();
+  }
+
+  /** Lets users go through nodes, copy and save them where there are any. */
+  #allow() {
+    const isOff = this.count === 0 || this.#isOld;
+    [byId("previous"), byId("next"), byId("copy"), byId("save")].forEach((it) => (it.disabled = isOff));
   }
 }
