@@ -185,6 +185,7 @@ export class DocumentBox {
     const { document: refused, refused: lines = [], refusedCount = 0, looksLikeLines } = answer;
     setRefused(this.#editor, Boolean(refused) || refusedCount > 0);
     this.#parts.stepping.hidden = Boolean(refused);
+    this.#parts.switch.classList.toggle("offered", Boolean(looksLikeLines));
     this.#mark(refused ? [refused] : lines);
     const ofDocument = refused ? documentRefusal(refused, looksLikeLines, go, readByLines) : [];
     const ofLines = refusedCount > 0 ? lineRefusals(answer, readByLines) : [];

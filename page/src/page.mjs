@@ -71,7 +71,8 @@ class Page {
     this.#drawn = documentEditor();
     this.#query = new QueryBox(typed, byId("query-outcome"), byId("query-patterns"));
     const [long, earlier, later, stepping] = ["long", "earlier", "later", "stepping"].map(byId);
-    const parts = { long, earlier, later, stepping, outcome: byId("document-outcome") };
+    const [outcome, lines] = ["document-outcome", "lines"].map(byId);
+    const parts = { long, earlier, later, stepping, outcome, switch: lines.parentElement };
     this.#document = new DocumentBox(this.#drawn, parts, (it) => this.#replace(it));
     this.#list = new NodeList(byId("nodes"), byId("windows"), {
       fetch: (from, to) => this.#asker.about("nodes", { from, to, order: byId("order").value }),

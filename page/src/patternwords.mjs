@@ -25,7 +25,7 @@ function anchorWords(anchors, name) {
   if (anchors.length === 0) {
     return [];
   }
-  const are = anchors.length === 1 ? " is a character here: " : " are characters here: ";
+  const are = anchors.length === 1 ? " is a character: " : " are characters: ";
   return [" ", ...listed(anchors.map((it) => [made("code", "", it)])), are, ANCHORED[name]];
 }
 

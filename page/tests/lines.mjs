@@ -56,8 +56,10 @@ async function tellsOfManyRefusedLines() {
 async function recognizesJsonLines() {
   await open({ q: "$..a", d: LINES });
   assert.deepEqual(await seen("button"), ["Read as JSON Lines"]);
+  assert.equal(await textOf(".offered"), " JSON Lines");
   await click("#document-outcome button");
   await answered();
+  assert.equal(await countOf(".offered"), 0);
   assert.equal(await isByLines(), true);
   assert.deepEqual(await textsOf("#nodes li > .quiet, #nodes .path"), NODES);
   // Lines whose numbers have fractions, which the engine refuses, and blank lines between.

@@ -6,10 +6,12 @@ import assert from "node:assert/strict";
 import { readFileSync } from "node:fs";
 import { Engine } from "../../bindings/node/engine.mjs";
 import * as jp from "../../bindings/node/jp.mjs";
-import { STANDARD } from "../../bindings/node/numbers.mjs";
+import { EXTENDED, STANDARD } from "../../bindings/node/numbers.mjs";
+import { bytesOf, textOf } from "../../bindings/node/texts.mjs";
 import { translated } from "../src/dialects.mjs";
 import { patternsIn, withPatterns } from "../src/literals.mjs";
 import { toldOfPatterns } from "../src/patterns.mjs";
+import { rows } from "./sentences.mjs";
 
 const TEXTS = [
   "", "a", "ab", "b", "ba", "aab", "12", "1a", "a1", "2024-01-05", "x-1", "a b", " ", "\t", "_", "é", "$5", "5$", "^", "^a", "a.b",
@@ -86,7 +88,23 @@ function findsPatterns() {
   });
 }
 
+/** In a query and in its canonical text, which the engine writes, stand the same patterns. */
+function findsThoseOfRows() {
+  let count = 0;
+  for (const { query, profile: name } of rows.filter((it) => it.refused !== "Query")) {
+    const profile = name === "Extended" ? EXTENDED : STANDARD;
+    const canonical = textOf(engine.canonical(bytesOf(query), profile).text);
+    const [found, same] = [query, canonical].map((text) => patternsIn(text).map(({ name, pattern }) => [name, pattern]));
+    assert.deepEqual(found, same, query);
+    assert.notEqual(toldOfPatterns(engine, query, profile).suggestion, query);
+    count += found.length;
+  }
+  assert.ok(count > 500);
+  return count;
+}
+
 takesAsJavaScript();
 suggestsNothingElse();
 findsPatterns();
+console.log(`${findsThoseOfRows()} patterns are found in the queries of the rows`);
 console.log(`${FOREIGN.length} patterns of JavaScript are suggested as I-Regexps that take the same texts`);

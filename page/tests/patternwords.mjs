@@ -20,7 +20,7 @@ async function saysWhatIsNoPattern() {
 async function saysWhatIsACharacter() {
   await open({ q: "$[?search(@, '^x$')]", d: TEXTS });
   assert.equal(await listed(), '$[2]\t"^x$"\n');
-  const words = "In the pattern ^x$, ^ and $ are characters here: search() looks everywhere in the text, and match() takes the whole.";
+  const words = "In the pattern ^x$, ^ and $ are characters: search() looks everywhere in the text, and match() takes the whole.";
   assert.deepEqual(await textsOf("#query-patterns .warned"), [words]);
   assert.equal(await textOf("#query-patterns button"), "$[?match(@, 'x')]");
   await click("#query-patterns button");

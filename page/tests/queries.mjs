@@ -140,6 +140,8 @@ async function movesNoBoxThatIsTypedIn() {
       await answered();
       assert.equal((await boxOf(`#${id}`))[0], before, text);
     }
+    // The part at the cursor is told a little later.
+    await becomes(() => textOf("#part"), ".b The member named b. (RFC 9535, section 2.5.1)");
   }
 }
 
