@@ -2,6 +2,7 @@
 import { indexAt } from "../../bindings/node/texts.mjs";
 import { setRefused, settle } from "./editors.mjs";
 import { made, madeButton } from "./elements.mjs";
+import { OneStop } from "./onestop.mjs";
 import { patternWords } from "./patternwords.mjs";
 import { isInExpression } from "./querymode.mjs";
 
@@ -26,6 +27,7 @@ export class QueryBox {
     this.#editor = editor;
     this.#outcome = outcome;
     this.#patterns = patterns;
+    new OneStop(outcome.parentElement);
     editor.on("beforeChange", (_, change) => {
       if (change.origin === "paste" && !isOneLine(change.text)) {
         change.update(null, null, change.text.join("\n").replace(NEWLINES_AT_ENDS, "").split("\n"));

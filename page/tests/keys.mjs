@@ -35,8 +35,11 @@ async function tabsToDocument() {
 async function comesToTheDocument() {
   for (const width of [360, 1280]) {
     await open({ q: "$.b[0].p", d: STORE }, { width, height: 800 });
-    assert.ok((await textsOf("#query-outcome button")).length === 1);
+    assert.equal((await textsOf("#query-outcome button")).length, 1);
     assert.ok((await tabsToDocument()) <= MOST_TABS, `at ${width}`);
+    await open({ q: "$[?search(@.a,'^x')]", d: STORE }, { width, height: 800 });
+    assert.equal((await textsOf("#query-told button")).length, 2);
+    assert.ok((await tabsToDocument()) <= MOST_TABS, `at ${width}, with a pattern`);
     await click("#empty");
     await click("#back");
     await answered();
