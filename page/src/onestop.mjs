@@ -9,7 +9,7 @@ export class OneStop {
 
   constructor(around) {
     this.#around = around;
-    around.addEventListener("focusin", ({ target }) => this.#take(target.closest(TAKES_FOCUS)));
+    around.addEventListener("focusin", ({ target }) => this.#take(target.closest(TAKES_FOCUS) ?? this.#current));
     around.addEventListener("keydown", (event) => this.#leadOn(event));
     // Where a part opens or closes, what stood there comes or goes.
     around.addEventListener("toggle", () => this.renew(), true);

@@ -188,10 +188,10 @@ class Page {
     }
   }
 
-  /** Shows what is told of a query, and asks for its nodes unless it was stopped. */
+  /** Shows what is told of a query, unless another one is asked now, and asks for its nodes unless it was stopped. */
   #showRead(told, { query, profile }) {
-    const isOther = this.#asked !== null && (this.#asked.query !== query || this.#asked.profile !== profile);
-    if (isOther) {
+    const now = this.#asked ?? this.#case();
+    if (now.query !== query || now.profile !== profile) {
       return;
     }
     this.#read = { query, profile, told };

@@ -8,6 +8,8 @@ export class Selection {
   #places = null;
   #current = null;
   #isOld = false;
+  // Counts the answers, since what is awaited for one may come after the next.
+  #turn = 0;
 
   constructor(asker, list, marks) {
     this.#asker = asker;
@@ -35,7 +37,12 @@ export class Selection {
   async show(count) {
     this.#places = this.#current = null;
     this.#isOld = false;
+    this.#turn += 1;
+    const turn = this.#turn;
     await this.#list.show(count);
+    if (turn !== this.#turn) {
+      return;
+    }
     this.#tell();
     byId("order").disabled = false;
     if (count === 0) {
@@ -44,7 +51,7 @@ export class Selection {
     }
     const places = await this.#asker.about("places");
     // Where a new question came there are none, and where there are too many these have no places.
-    if (places !== null) {
+    if (turn === this.#turn && places !== null) {
       this.#places = places.starts ? places : null;
       byId("order").disabled = this.#places === null;
       this.#marks.show(this.#places);

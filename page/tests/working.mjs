@@ -40,6 +40,28 @@ async function tellsOfTheQueryWhileItWorks() {
   assert.equal(await textOf("#count"), "No answer: the query is refused.");
 }
 
+/** Runs in the page before it: where values stand is told late. */
+const LATE = `{
+  const Plain = Worker;
+  window.Worker = class extends Plain {
+    set onmessage(take) {
+      super.onmessage = (event) => setTimeout(() => take(event), event.data.byPlace ? 800 : 0);
+    }
+  };
+}`;
+
+/** What comes late of a former answer is not shown. */
+async function marksNothingLate() {
+  await open({ q: "$[1]", d: ITEMS }, { before: LATE });
+  assert.deepEqual(await marked("document", "selected"), ["[1]"]);
+  await type("query", "$[0]");
+  await becomes(listed, "$[0]\t[0]\n");
+  await type("query", LONG);
+  await untilItWorks();
+  await browser.value("new Promise((resolve) => setTimeout(resolve, 1000))");
+  await hasNoNodes();
+}
+
 /** What is typed while a query works is answered, though nothing more is typed. */
 async function answersWhatWaits() {
   await open({ q: "$[0]", d: ITEMS });
@@ -98,4 +120,4 @@ async function stops() {
   }
 }
 
-export const tests = [tellsOfTheQueryWhileItWorks, answersWhatWaits, makesNodesOldAtOnce, stops];
+export const tests = [tellsOfTheQueryWhileItWorks, marksNothingLate, answersWhatWaits, makesNodesOldAtOnce, stops];
