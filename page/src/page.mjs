@@ -3,7 +3,7 @@ import { Asker } from "./asker.mjs";
 import { Before, caseIn, isSame, keepInTab, keptInTab } from "./cases.mjs";
 import { DocumentBox } from "./documents.mjs";
 import { documentEditor, queryEditor } from "./editors.mjs";
-import { byId, calmed, counted, made } from "./elements.mjs";
+import { byId, calmed, made } from "./elements.mjs";
 import { EXAMPLES } from "./examples.mjs";
 import { indented } from "./indenting.mjs";
 import { engineHere, lackHere, loadEditor, loadEngine } from "./loading.mjs";
@@ -14,33 +14,20 @@ import { Selection } from "./selecting.mjs";
 import { QueryReader } from "./reader.mjs";
 import { copyLink, copyNodes, linkHolds, saveNodes } from "./sharing.mjs";
 import { PartTeller, showReference } from "./teaching.mjs";
+import { countTold, tell } from "./telling.mjs";
 
-// In milliseconds: how long the page rests after a key before it asks, and before it keeps what is typed; when a
-// question that is not answered shows; and how long what was done is told.
+// In milliseconds: how long the page rests after a key before it asks, and before it keeps what is typed; and when a
+// question that is not answered shows.
 const REST_TO_ASK = 100;
 const REST_TO_KEEP = 500;
 const NOTICE = 300;
-const TELLING = 8000;
 // In lines: of no longer document all is drawn to be printed.
 const MOST_PRINTED = 5000;
-const NO_NODES = {
-  query: "No answer: the query is refused.",
-  document: "No answer: the document is refused.",
-  isWithoutDocument: "No answer: there is no document.",
-};
 const [FIRST] = EXAMPLES;
 const FIRST_CASE = { query: FIRST.queries[0], document: FIRST.document, profile: "standard", byLines: false };
 
 function chosen(name) {
   return document.querySelector(`input[name="${name}"]:checked`).value;
-}
-
-const tellNoMore = calmed(() => byId("told").replaceChildren(), TELLING);
-
-/** Tells what was done, for a while. */
-function tell(text) {
-  byId("told").textContent = text;
-  tellNoMore();
 }
 
 /** The page while the engine runs. */
@@ -249,7 +236,7 @@ class Page {
   async #end(answer) {
     clearTimeout(this.#noticed);
     byId("stop").disabled = true;
-    byId("count").textContent = answer.count === undefined ? whyNone(answer) : timed(answer);
+    byId("count").textContent = countTold(answer);
     const asked = this.#asked;
     await this.#selection.show(answer.count ?? 0);
     if (this.#asked === asked) {
@@ -346,16 +333,6 @@ class Page {
       this.#drawn.setOption("viewportMargin", Infinity);
     }
   }
-}
-
-/** Why an answer has no nodes. */
-function whyNone(answer) {
-  const why = Object.keys(NO_NODES).find((it) => answer[it]);
-  return answer.fault ? `No answer: ${answer.fault}` : (NO_NODES[why] ?? "");
-}
-
-function timed({ count, time }) {
-  return `${counted(count, "node", "nodes")} in ${time < 0.1 ? "less than 0.1 ms" : `${time.toFixed(1)} ms`}`;
 }
 
 async function start() {
