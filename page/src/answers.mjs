@@ -83,6 +83,8 @@ export class AnswerByLines {
   #count = 0;
   refused = [];
   refusedCount = 0;
+  /** How many lines are not blank. */
+  lineCount = 0;
 
   constructor(text) {
     this.#text = text;
@@ -155,6 +157,7 @@ export function answerByLines(engine, { bytes: query, profile }, text, bytes) {
     const end = text.indexOf("\n", start);
     line += 1;
     if (!own.every(isBlankByte)) {
+      answer.lineCount += 1;
       const outcome = engine.ask(asked, own, BOTH);
       const refused = refusal(engine, outcome, query, profile, own);
       if (refused?.document) {

@@ -1,32 +1,33 @@
-/** The worker, which asks the engine, and what it is asked. */
+/** The worker, which asks the engine of documents, and what it is asked. */
 
 // In milliseconds: when what is not answered is given up for another question.
 const PATIENCE = 1000;
 
 /**
- * One thing is asked of the worker at a time. Of questions only the newest waits; one that took longer than our
- * patience is given up for a new one, with the worker. What is asked about an answer waits for its turn, and is
- * answered by null where a new question came.
+ * One thing is asked of the worker at a time. Of questions only the newest waits; what took longer than our patience is
+ * given up for it, with the worker. What is asked about an answer waits for its turn, and is answered by null where a
+ * new question came.
  */
 export class Asker {
   #module;
-  #source;
+  #address;
   #show;
   #worker;
   #document;
+  #patience;
   #atWork = null;
   #question = null;
   #others = [];
 
-  constructor(module, source, show) {
+  constructor(module, address, show) {
     this.#module = module;
-    this.#source = URL.createObjectURL(new Blob([source], { type: "text/javascript" }));
+    this.#address = address;
     this.#show = show;
     this.#start();
   }
 
   #start() {
-    this.#worker = new Worker(this.#source);
+    this.#worker = new Worker(this.#address);
     this.#document = undefined;
     this.#worker.onmessage = ({ data }) => this.#answered(data);
     this.#worker.onerror = () => this.#answered({ fault: "The engine did not start." });
@@ -36,8 +37,10 @@ export class Asker {
   ask(question) {
     this.#dropOthers();
     this.#question = question;
-    if (this.#atWork && performance.now() - this.#atWork.since > PATIENCE) {
-      this.#giveUp();
+    clearTimeout(this.#patience);
+    if (this.#atWork) {
+      const left = this.#atWork.since + PATIENCE - performance.now();
+      this.#patience = setTimeout(() => this.#giveUp(), Math.max(0, left));
     }
     this.#next();
   }
@@ -54,23 +57,27 @@ export class Asker {
   drop() {
     this.#dropOthers();
     this.#question = null;
+    clearTimeout(this.#patience);
     if (this.#atWork?.isQuestion) {
       this.#atWork.isDropped = true;
     }
   }
 
-  /** Gives up what is at work and what waits. */
+  /** Gives up what is at work, and asks nothing. */
   stop() {
     this.#dropOthers();
     this.#question = null;
     this.#giveUp();
   }
 
+  /** Gives up what is at work for what waits. */
   #giveUp() {
+    clearTimeout(this.#patience);
     this.#worker.terminate();
     this.#atWork?.resolve?.(null);
     this.#atWork = null;
     this.#start();
+    this.#next();
   }
 
   #dropOthers() {
@@ -98,6 +105,7 @@ export class Asker {
 
   #answered(answer) {
     const { isDropped, resolve } = this.#atWork ?? { isDropped: true };
+    clearTimeout(this.#patience);
     this.#atWork = null;
     if (resolve) {
       resolve(answer?.fault ? null : answer);

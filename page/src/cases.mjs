@@ -59,9 +59,9 @@ export class Before {
     return this.#cases.length === 0;
   }
 
-  /** Remembers a case that another one replaces. One that `isOwn` came from the page itself, which has it. */
+  /** Remembers a case that another one replaces, unless both are as the page put them, which has these. */
   replace(old, next, isOwn) {
-    if (this.#isWorthIt(old) && !isSame(old, next)) {
+    if (this.#isWorthIt(old, isOwn) && !isSame(old, next)) {
       this.#cases = [...this.#cases.filter((it) => !isSame(it, old)), old].slice(-MOST_KEPT_BACK);
     }
     this.#put = isOwn ? next : null;
@@ -70,16 +70,17 @@ export class Before {
   /** The case that was replaced last. What is here `now` is the last to come back. */
   bringBack(now) {
     const last = this.#cases.pop();
-    if (this.#isWorthIt(now) && !this.#cases.some((it) => isSame(it, now))) {
+    if (this.#isWorthIt(now, true) && !this.#cases.some((it) => isSame(it, now))) {
       this.#cases.unshift(now);
     }
     this.#put = null;
     return last;
   }
 
-  /** Whether a case is a user's: one that is not blank, and not as the page put it in. */
-  #isWorthIt(it) {
+  /** Whether a case is not blank, and is not one of the page's own where another of these comes. */
+  #isWorthIt(it, isOwn) {
     const isBlank = it.query === "" && it.document === "";
-    return !isBlank && (this.#put === null || !isSame(it, this.#put));
+    const isAsPut = this.#put !== null && isSame(it, this.#put);
+    return !isBlank && !(isOwn && isAsPut);
   }
 }

@@ -1,6 +1,7 @@
 /** The document: its editor, which shows a part of a long one, and what the engine says of it. */
 import { setRefused, settle } from "./editors.mjs";
-import { counted, made, madeButton, spelled } from "./elements.mjs";
+import { made, spelled } from "./elements.mjs";
+import { documentRefusal, lineRefusals } from "./refusals.mjs";
 
 // In characters: what the editor holds whole, in all and in a line; and what it shows of a longer one.
 const LONGEST = 3_000_000;
@@ -179,25 +180,15 @@ export class DocumentBox {
     }
   }
 
-  /** Shows why the document is refused, or its lines, and `go` to a path in it. */
-  show({ document: refused, refused: lines = [], refusedCount = 0 }, go) {
-    const isRefused = Boolean(refused) || refusedCount > 0;
-    setRefused(this.#editor, isRefused);
+  /** Shows why the document is refused, or its lines, and by buttons `go` to a path in it, or reads it by lines or not. */
+  show(answer, go, readByLines) {
+    const { document: refused, refused: lines = [], refusedCount = 0, looksLikeLines } = answer;
+    setRefused(this.#editor, Boolean(refused) || refusedCount > 0);
     this.#parts.stepping.hidden = Boolean(refused);
+    this.#parts.switch.classList.toggle("offered", Boolean(looksLikeLines));
     this.#mark(refused ? [refused] : lines);
-    this.#parts.outcome.replaceChildren(...(refused ? [refusal(refused, `in line ${refused.line}, `, go)] : []));
-    if (refusedCount > 0) {
-      const list = lines.map((it) => made("li", "", refusal(it, `in line ${it.line}, `)));
-      const summary = made("summary", "", `${counted(refusedCount, "line is", "lines are")} refused`);
-      this.#parts.outcome.append(made("details", "wrong", summary, made("ol", "", ...list)));
-    }
+    const ofDocument = refused ? documentRefusal(refused, looksLikeLines, go, readByLines) : [];
+    const ofLines = refusedCount > 0 ? lineRefusals(answer, readByLines) : [];
+    this.#parts.outcome.replaceChildren(...ofDocument, ...ofLines);
   }
-}
-
-function refusal({ kind, column, sentence, path }, place, go) {
-  const words = made("p", "wrong", made("strong", "", `${kind} ${place}column ${column}: `), sentence);
-  if (path) {
-    words.append(" ", go ? madeButton("code link", path, () => go(path)) : made("code", "", path));
-  }
-  return words;
 }

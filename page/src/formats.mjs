@@ -1,6 +1,6 @@
 /** The nodes as a text to be copied or saved. */
 
-const COMMAS = /[",\r\n]/;
+const NEEDS_QUOTES = /[",\r\n]|^$/;
 
 /** What is written of a node: its line's number where documents have a line each, its path and its value. */
 function partsOf({ line, path, value }, form) {
@@ -19,9 +19,19 @@ function asJson({ line, path, value }, form) {
   return `{${Object.entries(members).map(([name, text]) => `"${name}":${text}`).join(",")}}`;
 }
 
-/** A field of CSV (RFC 4180). */
+/** A value as a field has it: a text as it is, without JSON's quotes and escapes, and any other as JSON. */
+function plain(value) {
+  return value.startsWith('"') ? JSON.parse(value) : value;
+}
+
+/** A field of CSV (RFC 4180). An empty one has quotes, since some readers pass over a line without anything. */
 function field(text) {
-  return COMMAS.test(text) ? `"${text.replaceAll('"', '""')}"` : String(text);
+  return NEEDS_QUOTES.test(text) ? `"${text.replaceAll('"', '""')}"` : String(text);
+}
+
+function asCsv({ line, path, value }, form) {
+  const fields = partsOf({ line, path, value: plain(value) }, form);
+  return Object.values(fields).map(field).join(",");
 }
 
 const FORMATS = {
@@ -44,7 +54,7 @@ const FORMATS = {
     before: "",
     between: "\r\n",
     after: "\r\n",
-    node: (node, form) => Object.values(partsOf(node, form)).map(field).join(","),
+    node: asCsv,
   },
 };
 

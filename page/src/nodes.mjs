@@ -15,6 +15,8 @@ export class NodeList {
   #from = 0;
   #current = null;
   #form = "both";
+  // Counts what was fetched, since it may come after what was asked for later.
+  #fetches = 0;
 
   /** `fetch` answers the nodes between two places of the order, or null; `pick` is called with the place of a node. */
   constructor(list, windows, { fetch, pick }) {
@@ -61,8 +63,10 @@ export class NodeList {
 
   async #showFrom(from) {
     const to = Math.min(this.#count, from + WINDOW);
+    this.#fetches += 1;
+    const own = this.#fetches;
     const nodes = to > from ? await this.#fetch(from, to) : [];
-    if (nodes === null) {
+    if (nodes === null || own !== this.#fetches) {
       return;
     }
     this.#from = from;

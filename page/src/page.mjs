@@ -3,7 +3,7 @@ import { Asker } from "./asker.mjs";
 import { Before, caseIn, isSame, keepInTab, keptInTab } from "./cases.mjs";
 import { DocumentBox } from "./documents.mjs";
 import { documentEditor, queryEditor } from "./editors.mjs";
-import { byId, calmed, counted, made } from "./elements.mjs";
+import { byId, calmed, made } from "./elements.mjs";
 import { EXAMPLES } from "./examples.mjs";
 import { indented } from "./indenting.mjs";
 import { engineHere, lackHere, loadEditor, loadEngine } from "./loading.mjs";
@@ -11,8 +11,10 @@ import { Marks } from "./marks.mjs";
 import { NodeList } from "./nodes.mjs";
 import { QueryBox } from "./queries.mjs";
 import { Selection } from "./selecting.mjs";
+import { QueryReader } from "./reader.mjs";
 import { copyLink, copyNodes, linkHolds, saveNodes } from "./sharing.mjs";
 import { PartTeller, showReference } from "./teaching.mjs";
+import { countTold, tell } from "./telling.mjs";
 
 // In milliseconds: how long the page rests after a key before it asks, and before it keeps what is typed; and when a
 // question that is not answered shows.
@@ -21,12 +23,6 @@ const REST_TO_KEEP = 500;
 const NOTICE = 300;
 // In lines: of no longer document all is drawn to be printed.
 const MOST_PRINTED = 5000;
-const NO_NODES = {
-  query: "No answer: the query is refused.",
-  document: "No answer: the document is refused.",
-  fault: "No answer.",
-  isWithoutDocument: "No answer: there is no document.",
-};
 const [FIRST] = EXAMPLES;
 const FIRST_CASE = { query: FIRST.queries[0], document: FIRST.document, profile: "standard", byLines: false };
 
@@ -34,12 +30,9 @@ function chosen(name) {
   return document.querySelector(`input[name="${name}"]:checked`).value;
 }
 
-function tell(text) {
-  byId("told").textContent = text;
-}
-
 /** The page while the engine runs. */
 class Page {
+  #reader;
   #asker;
   #query;
   #document;
@@ -49,18 +42,24 @@ class Page {
   #before = new Before();
   #noticed;
   #asked = null;
+  // What was told of the query that was read last.
+  #read = null;
   #isAsking = false;
   #isChanged = false;
   #askSoon = calmed(() => this.#askIfNew(), REST_TO_ASK);
   #keepSoon = calmed(() => keepInTab(this.#case()), REST_TO_KEEP);
 
   constructor(module) {
-    this.#asker = new Asker(module, byId("worker").textContent, (answer) => this.#show(answer));
+    const source = new Blob([byId("worker").textContent], { type: "text/javascript" });
+    const worker = URL.createObjectURL(source);
+    this.#reader = new QueryReader(module, worker, (told, by) => this.#showRead(told, by));
+    this.#asker = new Asker(module, worker, (answer) => this.#show(answer));
     const typed = queryEditor(() => this.#run());
     this.#drawn = documentEditor();
-    this.#query = new QueryBox(typed, byId("query-outcome"));
+    this.#query = new QueryBox(typed, byId("query-outcome"), byId("query-patterns"));
     const [long, earlier, later, stepping] = ["long", "earlier", "later", "stepping"].map(byId);
-    const parts = { long, earlier, later, stepping, outcome: byId("document-outcome") };
+    const [outcome, lines] = ["document-outcome", "lines"].map(byId);
+    const parts = { long, earlier, later, stepping, outcome, switch: lines.parentElement };
     this.#document = new DocumentBox(this.#drawn, parts, (it) => this.#replace(it));
     this.#list = new NodeList(byId("nodes"), byId("windows"), {
       fetch: (from, to) => this.#asker.about("nodes", { from, to, order: byId("order").value }),
@@ -95,6 +94,7 @@ class Page {
 
   #put({ query, document: text, profile, byLines }) {
     this.#query.put(query);
+    this.#read = null;
     this.#selection.clear();
     this.#document.put(text);
     document.querySelector(`input[name="profile"][value="${profile}"]`).checked = true;
@@ -125,7 +125,7 @@ class Page {
 
   #changed() {
     this.#isChanged = true;
-    byId("nodes").setAttribute("aria-busy", "true");
+    this.#setBusy(true);
     this.#askSoon();
     this.#keepSoon();
   }
@@ -142,59 +142,106 @@ class Page {
     if (this.#asked === null || !isSame(this.#asked, this.#case())) {
       this.#ask();
     } else {
-      byId("nodes").setAttribute("aria-busy", String(this.#isAsking));
+      this.#setBusy(this.#isAsking);
     }
   }
 
-  /** Asks for what the page holds now. */
+  /** Says whether the nodes are old, since another answer is awaited. */
+  #setBusy(isBusy) {
+    byId("nodes").setAttribute("aria-busy", String(isBusy));
+    this.#selection.setOld(isBusy);
+  }
+
+  /** Asks for what the page holds now: what the query is, and then its nodes. */
   #ask() {
     const it = this.#case();
     this.#asked = it;
     byId("link-holds").textContent = linkHolds(it);
     if (it.query === "") {
-      this.#asker.drop();
+      this.#reader.drop();
+      this.#read = null;
       this.#query.showExample(FIRST_CASE.query);
-      this.#document.show({});
-      this.#end({});
+      this.#endWithout({});
       return;
     }
     clearTimeout(this.#noticed);
-    byId("nodes").setAttribute("aria-busy", "true");
+    this.#setBusy(true);
     this.#isAsking = true;
-    this.#noticed = setTimeout(() => {
-      byId("count").replaceChildren(made("span", "working", "Working …"));
-      byId("stop").disabled = false;
-    }, NOTICE);
-    this.#asker.ask(it);
+    this.#noticed = setTimeout(() => this.#showWorking(), NOTICE);
+    if (this.#read?.query === it.query && this.#read.profile === it.profile) {
+      this.#goOn(this.#read.told);
+    } else {
+      this.#reader.read(it.query, it.profile);
+    }
+  }
+
+  /** Shows what is told of a query, unless another one is asked now, and asks for its nodes unless it was stopped. */
+  #showRead(told, { query, profile }) {
+    const now = this.#asked ?? this.#case();
+    if (now.query !== query || now.profile !== profile) {
+      return;
+    }
+    this.#read = { query, profile, told };
+    this.#query.show(told);
+    byId("version").textContent = told.version ? ` ${told.version}` : "";
+    if (this.#asked !== null) {
+      this.#goOn(told);
+    }
+  }
+
+  #goOn(told) {
+    if (told.canonical === undefined) {
+      this.#endWithout(told);
+    } else {
+      this.#asker.ask(this.#asked);
+    }
+  }
+
+  /** Says that the question is at work, and takes the former answer away. */
+  #showWorking() {
+    byId("count").replaceChildren(made("span", "working", "Working …"));
+    byId("stop").disabled = false;
+    this.#document.show({});
+    this.#selection.show(0);
   }
 
   #stop() {
     if (!byId("stop").disabled) {
       this.#asker.stop();
       this.#asked = null;
+      this.#document.show({});
       this.#end({});
       byId("count").textContent = "Stopped.";
     }
   }
 
   #show(answer) {
-    this.#query.show(answer);
-    this.#document.show(answer, (path) => this.#selection.goToPath(path));
-    byId("version").textContent = answer.version ? ` ${answer.version}` : "";
+    const readByLines = (byLines) => {
+      byId("lines").checked = byLines;
+      byId("lines").focus();
+      this.#changed();
+    };
+    this.#document.show(answer, (path) => this.#selection.goToPath(path), readByLines);
     this.#end(answer);
+  }
+
+  /** Ends where there is no query to be asked, or one that is refused. */
+  #endWithout(told) {
+    this.#asker.drop();
+    this.#document.show({});
+    this.#end(told);
   }
 
   /** Shows the nodes of an answer, or that there are none. */
   async #end(answer) {
     clearTimeout(this.#noticed);
     byId("stop").disabled = true;
-    const why = Object.keys(NO_NODES).find((it) => answer[it]);
-    byId("count").textContent = answer.count === undefined ? (NO_NODES[why] ?? "") : timed(answer);
+    byId("count").textContent = countTold(answer);
     const asked = this.#asked;
     await this.#selection.show(answer.count ?? 0);
     if (this.#asked === asked) {
       this.#isAsking = false;
-      byId("nodes").setAttribute("aria-busy", String(this.#isChanged));
+      this.#setBusy(this.#isChanged);
     }
   }
 
@@ -213,6 +260,13 @@ class Page {
     }
   }
 
+  #skipToDocument(event) {
+    event.preventDefault();
+    this.#drawn.focus();
+    byId("document-name").scrollIntoView({ block: "nearest" });
+    byId("document").scrollIntoView({ block: "nearest" });
+  }
+
   #indent() {
     try {
       JSON.parse(this.#document.text);
@@ -226,6 +280,7 @@ class Page {
   #listen() {
     const presses = {
       stop: () => this.#stop(),
+      skip: (event) => this.#skipToDocument(event),
       link: async () => tell(await copyLink(this.#case())),
       back: () => this.#bringBack(),
       indent: () => this.#indent(),
@@ -278,10 +333,6 @@ class Page {
       this.#drawn.setOption("viewportMargin", Infinity);
     }
   }
-}
-
-function timed({ count, time }) {
-  return `${counted(count, "node", "nodes")} in ${time < 0.1 ? "less than 0.1 ms" : `${time.toFixed(1)} ms`}`;
 }
 
 async function start() {

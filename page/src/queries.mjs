@@ -2,6 +2,8 @@
 import { indexAt } from "../../bindings/node/texts.mjs";
 import { setRefused, settle } from "./editors.mjs";
 import { made, madeButton } from "./elements.mjs";
+import { OneStop } from "./onestop.mjs";
+import { patternWords } from "./patternwords.mjs";
 import { isInExpression } from "./querymode.mjs";
 
 // Of such a query alone the engine says nothing, since it is no text.
@@ -17,11 +19,15 @@ function isOneLine(text) {
 export class QueryBox {
   #editor;
   #outcome;
+  #patterns;
   #mark = null;
 
-  constructor(editor, outcome) {
+  /** `outcome` and `patterns` are the elements for what is said of the query, and of the patterns in it. */
+  constructor(editor, outcome, patterns) {
     this.#editor = editor;
     this.#outcome = outcome;
+    this.#patterns = patterns;
+    new OneStop(outcome.parentElement);
     editor.on("beforeChange", (_, change) => {
       if (change.origin === "paste" && !isOneLine(change.text)) {
         change.update(null, null, change.text.join("\n").replace(NEWLINES_AT_ENDS, "").split("\n"));
@@ -65,8 +71,9 @@ export class QueryBox {
   }
 
   /** Shows what the engine says of the query. */
-  show({ query: refused, canonical, fault }) {
+  show({ query: refused, canonical, fault, patterns = [], suggestion = null }) {
     settle(this.#editor);
+    this.#showPatterns(patterns, suggestion);
     this.#unmark();
     setRefused(this.#editor, Boolean(refused));
     if (refused) {
@@ -81,6 +88,7 @@ export class QueryBox {
   /** Shows what can be asked where nothing is. */
   showExample(query) {
     settle(this.#editor);
+    this.#showPatterns([], null);
     this.#unmark();
     setRefused(this.#editor, false);
     const words = ["A query begins with ", made("code", "", "$"), ". Try: ", this.#queryButton(query)];
@@ -91,6 +99,11 @@ export class QueryBox {
     return canonical === this.text
       ? made("p", "", "Accepted, and written canonically.")
       : made("p", "", "Accepted. Canonically: ", this.#queryButton(canonical));
+  }
+
+  #showPatterns(patterns, suggestion) {
+    const other = suggestion === null ? [] : [made("p", "", "Try: ", this.#queryButton(suggestion))];
+    this.#patterns.replaceChildren(...patterns.map(patternWords), ...other);
   }
 
   #queryButton(query) {

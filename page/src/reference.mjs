@@ -41,7 +41,7 @@ export const KEYS = [
   ["Enter", "in the query: ask it, without the blanks at its ends"],
   ["Shift+Enter", "in the query: a new line"],
   ["Alt+↓, Alt+↑", "the next and the previous selected value, from anywhere"],
-  ["↓, ↑, Home, End", "in the list of nodes: from one to another"],
+  ["↓, ↑, Home, End", "in the list of nodes, in this reference, and below the query: from one to another"],
   ["Enter", "on a node: its value in the document"],
   ["Ctrl+.", "in the document: fold or unfold at the cursor"],
   ["Ctrl+Z", "in the query or the document: undo (on a Mac Cmd+Z)"],

@@ -7,6 +7,9 @@ export class Selection {
   #marks;
   #places = null;
   #current = null;
+  #isOld = false;
+  // Counts the answers, since what is awaited for one may come after the next.
+  #turn = 0;
 
   constructor(asker, list, marks) {
     this.#asker = asker;
@@ -24,10 +27,22 @@ export class Selection {
     this.#marks.show(null);
   }
 
+  /** Says whether the nodes are those of a former question: then nothing is done with them. */
+  setOld(isOld) {
+    this.#isOld = isOld;
+    this.#allow();
+  }
+
   /** Shows the nodes of a new answer, so many. */
   async show(count) {
     this.#places = this.#current = null;
+    this.#isOld = false;
+    this.#turn += 1;
+    const turn = this.#turn;
     await this.#list.show(count);
+    if (turn !== this.#turn) {
+      return;
+    }
     this.#tell();
     byId("order").disabled = false;
     if (count === 0) {
@@ -36,7 +51,7 @@ export class Selection {
     }
     const places = await this.#asker.about("places");
     // Where a new question came there are none, and where there are too many these have no places.
-    if (places !== null) {
+    if (turn === this.#turn && places !== null) {
       this.#places = places.starts ? places : null;
       byId("order").disabled = this.#places === null;
       this.#marks.show(this.#places);
@@ -53,7 +68,7 @@ export class Selection {
 
   /** Goes to the next node, or by -1 to the previous one, and at an end to the other. */
   step(by) {
-    if (this.count > 0) {
+    if (this.count > 0 && !this.#isOld) {
       const from = this.#current ?? (by > 0 ? -1 : 0);
       this.goTo((from + by + this.count) % this.count);
     }
@@ -61,6 +76,9 @@ export class Selection {
 
   /** Makes the node at a place of the order the current one. */
   async goTo(place) {
+    if (this.#isOld) {
+      return;
+    }
     this.#current = place;
     this.#tell();
     await this.#list.setCurrent(place);
@@ -91,6 +109,12 @@ export class Selection {
     const all = counted(this.count, "selected value", "selected values");
     const at = this.#current === null ? all : `${spelled(this.#current + 1)} of ${spelled(this.count)} selected`;
     byId("current").textContent = this.count === 0 ? "" : at;
-    [byId("previous"), byId("next"), byId("copy"), byId("save")].forEach((it) => (it.disabled = this.count === 0));
+    this.#allow();
+  }
+
+  /** Lets users go through nodes, copy and save them where there are any. */
+  #allow() {
+    const isOff = this.count === 0 || this.#isOld;
+    [byId("previous"), byId("next"), byId("copy"), byId("save")].forEach((it) => (it.disabled = isOff));
   }
 }

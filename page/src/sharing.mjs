@@ -9,8 +9,8 @@ const TO_SAVE = 60_000;
 /** What a link to a case would hold. */
 export function linkHolds({ document: text }) {
   return text.length <= LONGEST_IN_LINK
-    ? "A link holds the query and the whole document."
-    : "A link holds the query alone, since the document is too long.";
+    ? "It holds the query and the whole document."
+    : "It holds the query; the document is too long.";
 }
 
 /** Puts a case into the address, and the address where it can be pasted. */

@@ -3,6 +3,7 @@ import { settle } from "./editors.mjs";
 import { byId, calmed, made, madeButton } from "./elements.mjs";
 import { EXAMPLES } from "./examples.mjs";
 import { partAt, partsIn } from "./explaining.mjs";
+import { OneStop } from "./onestop.mjs";
 import { EXTENDED_FUNCTION, FUNCTIONS, KEYS, SYNTAX } from "./reference.mjs";
 import { fragmentOf } from "./cases.mjs";
 
@@ -68,6 +69,7 @@ export function showReference(insert, put) {
   beside.addEventListener("change", open);
   open();
   byId("syntax").open = true;
+  new OneStop(byId("reference"));
 }
 
 /** Tells of the part of a query at the cursor or under the mouse, and lists all. */

@@ -4,6 +4,8 @@ import { EXTENDED, STANDARD } from "../../bindings/node/numbers.mjs";
 import { bytesOf, textOf } from "../../bindings/node/texts.mjs";
 import { answerByLines, answerOf, refusal } from "./answers.mjs";
 import { written } from "./formats.mjs";
+import { isWhole, looksLikeLines } from "./lines.mjs";
+import { toldOfPatterns } from "./patterns.mjs";
 import { placesOf } from "./places.mjs";
 
 const PROFILES = { standard: STANDARD, extended: EXTENDED };
@@ -33,6 +35,22 @@ function timed(call) {
   return { answered, time: performance.now() - start };
 }
 
+/** The canonical text of a query, or why it is refused. */
+function checked({ bytes: query, profile }) {
+  const outcome = engine.canonical(query, profile);
+  const canonical = textOf(outcome.text);
+  const version = engine.version();
+  return { ...(refusal(engine, outcome, query, profile) ?? { canonical }), version };
+}
+
+/** What is told of a query before it is asked of any document. */
+function read({ module, query, profile: name }) {
+  engine ??= new Engine(module);
+  const profile = PROFILES[name];
+  const told = checked({ bytes: bytesOf(query), profile });
+  return told.canonical === undefined ? told : { ...told, ...toldOfPatterns(engine, query, profile) };
+}
+
 /** The canonical text, and the nodes with the time that they took, or why there are none. */
 function ask({ module, document: other, byLines, query, profile: name }) {
   engine ??= new Engine(module);
@@ -42,12 +60,9 @@ function ask({ module, document: other, byLines, query, profile: name }) {
   }
   answer = byPlace = null;
   const asked = { bytes: bytesOf(query), profile: PROFILES[name] };
-  const canonical = engine.canonical(asked.bytes, asked.profile);
-  const accepted = textOf(canonical.text);
-  const refused = refusal(engine, canonical, asked.bytes, asked.profile, bytes);
-  const told = { canonical: accepted, version: engine.version() };
-  if (refused) {
-    return { ...refused, version: told.version };
+  const told = checked(asked);
+  if (told.canonical === undefined) {
+    return told;
   }
   return isBlank(text) ? { ...told, isWithoutDocument: true } : { ...told, ...evaluated(asked, byLines) };
 }
@@ -62,11 +77,11 @@ function evaluated(asked, byLines) {
   const first = timed(evaluate);
   const { answered, time } = first.time < SHORT ? timed(evaluate) : first;
   if (!answered.answer) {
-    return answered;
+    return { ...answered, looksLikeLines: answered.document !== undefined && looksLikeLines(text) };
   }
   answer = answered.answer;
-  const { count, refused = [], refusedCount = 0 } = answer;
-  return { count, time, refused, refusedCount };
+  const { count, refused = [], refusedCount = 0, lineCount } = answer;
+  return { count, time, refused, refusedCount, lineCount, isWhole: refusedCount > 0 && isWhole(text) };
 }
 
 /** The numbers of nodes in an order, from one place of it to another. */
@@ -112,6 +127,7 @@ function* numbersIn(order) {
 }
 
 const CALLS = {
+  read,
   ask,
   nodes,
   places,

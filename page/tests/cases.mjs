@@ -1,7 +1,7 @@
 /** Tests that nothing is lost and nothing leaks: links, the tab, and what comes back. */
 import assert from "node:assert/strict";
 import {
-  PAGE, answered, becomes, browser, click, editor, listed, open, openFile, textOf, textsOf, type,
+  PAGE, answered, becomes, browser, click, countOf, editor, listed, open, openFile, textOf, textsOf, type,
 } from "./shown.mjs";
 
 const OWN = '{"mine":[1,2]}';
@@ -37,6 +37,26 @@ async function bringsBackWhatWasHere() {
   }
 }
 
+/** Also what the page put in itself, on a touch screen too: the button stands beside the one that empties. */
+async function emptiesAndBringsBack() {
+  await open(null, { width: 360, height: 800 });
+  const before = await editor("document", "getValue()");
+  await browser.value('document.querySelector("#empty").scrollIntoView({ block: "center" })');
+  await click("#empty");
+  await answered();
+  assert.equal(await editor("document", "getValue()"), "");
+  assert.equal(await textOf("#told"), "What was here can be brought back.");
+  const tops = await browser.value(`["told", "back"].map((id) => {
+    const { top, bottom } = document.getElementById(id).getBoundingClientRect();
+    return top > 0 && bottom < innerHeight;
+  })`);
+  assert.deepEqual(tops, [true, true]);
+  await click("#back");
+  await answered();
+  assert.equal(await editor("document", "getValue()"), before);
+  assert.equal(await countOf("#nodes li"), 2);
+}
+
 /** What comes back makes room for what was here, so that each comes back in turn. */
 async function bringsBackInACircle() {
   await open({ q: "$.mine", d: OWN });
@@ -67,7 +87,7 @@ async function putsNothingIntoTheAddress() {
   await answered();
   await browser.value("new Promise((resolve) => setTimeout(resolve, 800))");
   assert.equal(await address(), PAGE);
-  assert.equal(await textOf("#link-holds"), "A link holds the query and the whole document.");
+  assert.equal(await textOf("#link-holds"), "It holds the query and the whole document.");
   await browser.allow("clipboardReadWrite", "clipboardSanitizedWrite");
   await click("#link");
   await becomes(() => textOf("#told"), "Copied.");
@@ -85,7 +105,7 @@ async function saysThatLinksHaveNoLongDocument() {
   await open({ q: "$" });
   await openFile("long.json", JSON.stringify("x".repeat(20_000)));
   await answered();
-  assert.equal(await textOf("#link-holds"), "A link holds the query alone, since the document is too long.");
+  assert.equal(await textOf("#link-holds"), "It holds the query; the document is too long.");
   await click("#link");
   await browser.until('location.hash === "#q=%24"');
 }
@@ -116,6 +136,7 @@ async function connectsToNothing() {
 
 export const tests = [
   bringsBackWhatWasHere,
+  emptiesAndBringsBack,
   bringsBackInACircle,
   linksExamples,
   putsNothingIntoTheAddress,

@@ -1,12 +1,10 @@
-/** Tests of the document: its editor, how it is refused, long ones, and one document a line. */
+/** Tests of the document: its editor, how it is refused, and long ones. */
 import assert from "node:assert/strict";
 import { sentenceOf } from "./sentences.mjs";
 import {
   STORE, answered, becomes, browser, byProgram, click, countOf, editor, listed, marked, open, openFile, press, textOf,
   textsOf, type,
 } from "./shown.mjs";
-
-const LINES = '{"a":1}\n\n{"a":[2,{"a":3}]}\n{"a":2.5}\n[1,]\n{"a":4}';
 
 async function hasAnEditor() {
   await open({ q: "$", d: '{\n  "a": {\n    "b": [true, 1]\n  }\n}' });
@@ -78,22 +76,6 @@ async function goesOnMeanwhile() {
   assert.equal(await listed(), '$[7]\t{"id":7}\n');
 }
 
-async function stops() {
-  await open({ q: "$", d: JSON.stringify(Array.from({ length: 4000 }, (_, index) => [index])) });
-  const long = `$${`[${Array(99).fill("*")}]`.repeat(2)}.x`;
-  for (const stop of [() => click("#stop"), () => press("Escape")]) {
-    await type("query", long);
-    await browser.until('!document.querySelector("#stop").disabled');
-    await stop();
-    await answered();
-    assert.equal(await textOf("#count"), "Stopped.");
-    assert.equal(await browser.value('document.querySelector("#stop").disabled'), true);
-    await type("query", "$[3]");
-    await answered();
-    assert.equal(await listed(), "$[3]\t[3]\n");
-  }
-}
-
 /** A file of one line is too long for the editor, which shows a part of it. */
 async function showsPartsOfLongDocuments() {
   const text = JSON.stringify(Array.from({ length: 300_000 }, (_, index) => ({ id: `é${index}` })));
@@ -113,26 +95,6 @@ async function showsPartsOfLongDocuments() {
   await answered();
   assert.equal(await listed(), "$[0]\t5\n");
   assert.equal(await browser.value('document.getElementById("long").hidden'), true);
-}
-
-async function readsJsonLines() {
-  await open({ q: "$..a", d: "[]" });
-  await openFile("records.jsonl", LINES);
-  await answered();
-  assert.equal(await browser.value('document.getElementById("lines").checked'), true);
-  const items = await textsOf("#nodes li > .quiet, #nodes .path");
-  // By hand: of lines 1, 3 and 6, since line 2 is blank and lines 4 and 5 are refused.
-  assert.deepEqual(items, ["line 1", "$['a']", "line 3", "$['a']", "line 3", "$['a'][1]['a']", "line 6", "$['a']"]);
-  assert.equal(await textOf("#document-outcome summary"), "2 lines are refused");
-  assert.match((await textsOf("#document-outcome li"))[0], /^NotWhole in line 4, column 6: .* \$\['a'\]$/);
-  assert.equal((await textsOf("#document-outcome li"))[1], `NotJson in line 5, column 4: ${sentenceOf("Document", "TrailingComma")}`);
-  assert.deepEqual(await marked("document", "selected"), ["1", '[2,{"a":3}]', "3", "4"]);
-  await browser.value('document.querySelectorAll("#nodes .path")[2].click()');
-  await becomes(() => marked("document", "current"), ["3"]);
-  await click("#lines");
-  await answered();
-  // As one document it goes wrong behind its first line.
-  assert.match(await textOf("#document-outcome"), /^NotJson in line 3, column 1: /);
 }
 
 async function takesWhatIsDropped() {
@@ -160,9 +122,7 @@ export const tests = [
   showsRefusedDocuments,
   indents,
   goesOnMeanwhile,
-  stops,
   showsPartsOfLongDocuments,
-  readsJsonLines,
   takesWhatIsDropped,
   keepsTheDocumentWhereAFileFails,
 ];

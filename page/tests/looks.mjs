@@ -2,7 +2,7 @@
 import assert from "node:assert/strict";
 import { join } from "node:path";
 import {
-  PAGE, STORE, answered, becomes, browser, click, countOf, editor, listed, open, textOf, type,
+  PAGE, STORE, answered, becomes, browser, click, countOf, editor, listed, open, press, textOf, type,
 } from "./shown.mjs";
 
 const WIDTHS = [360, 800, 1280];
@@ -54,6 +54,23 @@ async function isWhole(name, { width, scheme }) {
   }
 }
 
+/** While a query works, after it was stopped, where Tab comes to the link to the document, and where that was emptied. */
+async function isWholeWhileAndAfter(window) {
+  await open({ q: "$[0]", d: JSON.stringify(Array.from({ length: 4000 }, (_, index) => [index])) }, window);
+  await type("query", `$${`[${Array(99).fill("*")}]`.repeat(2)}.x`);
+  await browser.until('document.querySelector(".working")');
+  await isWhole("working", window);
+  await click("#stop");
+  await isWhole("stopped", window);
+  await open({ q: "$.b[0]", d: STORE }, window);
+  await editor("query", "focus()");
+  await press("Tab");
+  await isWhole("skip", window);
+  await click("#empty");
+  await answered();
+  await isWhole("emptied", window);
+}
+
 async function isWholeInEachWindow() {
   for (const window of WINDOWS) {
     await open(null, window);
@@ -74,6 +91,62 @@ async function isWholeInEachWindow() {
     await open({ q: "$..a", d: '{"a":1}\n{"a":[2,{"a":3},4,5]}\n{"a":2.5}', l: "1" }, window);
     await click("#next");
     await isWhole("lines", window);
+    await open({ q: "$..a", d: '{"a":1}\n{"a":2}' }, window);
+    await isWhole("recognized-lines", window);
+    await open({ q: "$..a", d: ["1", ...Array(130).fill("[1,]")].join("\n"), l: "1" }, window);
+    await isWhole("refused-lines", window);
+    await open({ q: String.raw`$.b[?match(@.t, '^\\d+$') || search(@.t, "\\bx")]`, d: STORE }, window);
+    await isWhole("patterns", window);
+    await open({ q: String.raw`$.b[?search(@.t, "^x")]`, d: STORE }, window);
+    await isWhole("anchor", window);
+    await isWholeWhileAndAfter(window);
+  }
+}
+
+/**
+ * The longest stretches of the page, from the query's name to the list of nodes, where nothing stands: neither a text nor
+ * an editor or a button, each with what ends it.
+ */
+const GAPS = `(() => {
+  const boxes = [];
+  const add = ({ top, bottom, height }, name) => height > 0 && boxes.push([top, bottom, name]);
+  const texts = document.createTreeWalker(document.querySelector("main"), NodeFilter.SHOW_TEXT);
+  for (let text; (text = texts.nextNode()); ) {
+    if (text.data.trim() && text.parentElement.checkVisibility()) {
+      const range = document.createRange();
+      range.selectNode(text);
+      add(range.getBoundingClientRect(), text.data);
+    }
+  }
+  document.querySelectorAll("main :is(.CodeMirror, button, select, label)").forEach((it) => {
+    if (it.checkVisibility()) add(it.getBoundingClientRect(), it.textContent);
+  });
+  boxes.sort(([one], [other]) => one - other);
+  const gaps = [];
+  let reached = boxes[0][1];
+  for (const [top, bottom, name] of boxes) {
+    gaps.push([Math.round(top - reached), name.slice(0, 40)]);
+    reached = Math.max(reached, bottom);
+  }
+  return gaps.filter(([height]) => height > 40);
+})()`;
+
+/** On a narrow screen no room is kept for what is not said, whatever is. */
+async function keepsNoGaps() {
+  const window = { width: 360, height: 800 };
+  await open(null, window);
+  assert.deepEqual(await browser.value(GAPS), []);
+  for (const words of [
+    { q: "$.b[0]", d: STORE },
+    { q: "$.b[01]", d: STORE },
+    { q: "$[?match(@, '^x')]", d: '["x"]' },
+    { q: "$", d: "[1," },
+    { q: "$", d: "[1]\n[2]" },
+    { q: "$", d: "" },
+    { q: "", d: "" },
+  ]) {
+    await open(words, window);
+    assert.deepEqual(await browser.value(GAPS), [], JSON.stringify(words));
   }
 }
 
@@ -90,7 +163,9 @@ async function hasNames() {
   const boxes = told.filter(({ role }) => role.value === "textbox").map(({ name }) => name.value);
   assert.deepEqual(boxes, ["Query", "Document"]);
   const live = await browser.value('[...document.querySelectorAll("[aria-live], [role=status]")].map((it) => it.id)');
-  assert.deepEqual(live, ["query-outcome", "part", "told", "current", "document-outcome", "count"]);
+  assert.deepEqual(live, [
+    "query-outcome", "query-patterns", "part", "current", "document-outcome", "count", "told",
+  ]);
 }
 
 async function showsFocus() {
@@ -177,6 +252,7 @@ async function saysWhatIsMissing() {
 
 export const tests = [
   isWholeInEachWindow,
+  keepsNoGaps,
   hasNames,
   showsFocus,
   prints,

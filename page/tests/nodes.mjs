@@ -118,7 +118,7 @@ async function copiesAndSaves() {
 `;
   const csv = [
     "path,value",
-    String.raw`$['a'],"""x, \""y\"""""`,
+    String.raw`$['a'],"x, ""y"""`,
     `$['b'],"[1,18446744073709551615]"`,
     String.raw`$['c\''],null`,
     "",
@@ -145,4 +145,24 @@ async function copiesAndSaves() {
   }
 }
 
-export const tests = [showsNodes, marksAll, leadsOnByKeys, hasTwoOrders, foldsValues, reachesAllNodes, copiesAndSaves];
+/** Texts are fields as they are; what is no text is JSON. */
+async function writesCsvWithoutQuotesOfJson() {
+  await browser.allow("clipboardReadWrite", "clipboardSanitizedWrite");
+  await open({ q: "$[*]", d: String.raw`["plain","","a\nb","é\u0041",1,null,["x"]]` });
+  await choose("format", "csv");
+  await choose("form", "values");
+  await click("#copy");
+  const fields = ["value", "plain", '""', '"a\nb"', "éA", "1", "null", '"[""x""]"', ""];
+  await becomes(() => browser.value("navigator.clipboard.readText()"), fields.join("\r\n"));
+}
+
+export const tests = [
+  showsNodes,
+  marksAll,
+  leadsOnByKeys,
+  hasTwoOrders,
+  foldsValues,
+  reachesAllNodes,
+  copiesAndSaves,
+  writesCsvWithoutQuotesOfJson,
+];

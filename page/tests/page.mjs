@@ -6,15 +6,20 @@
 import assert from "node:assert/strict";
 import * as cases from "./cases.mjs";
 import * as documents from "./documents.mjs";
+import * as keys from "./keys.mjs";
+import * as lines from "./lines.mjs";
 import * as looks from "./looks.mjs";
 import * as nodes from "./nodes.mjs";
+import * as patternwords from "./patternwords.mjs";
 import * as queries from "./queries.mjs";
 import * as rows from "./rows.mjs";
 import { browser } from "./shown.mjs";
 import * as teaching from "./teaching.mjs";
+import * as working from "./working.mjs";
 
 const [, , , , ...names] = process.argv;
-const all = [queries, documents, nodes, cases, teaching, looks, rows].flatMap(({ tests }) => tests);
+const files = [queries, patternwords, working, documents, lines, nodes, cases, teaching, keys, looks, rows];
+const all = files.flatMap(({ tests }) => tests);
 const tests = names.length === 0 ? all : all.filter(({ name }) => names.includes(name));
 
 try {

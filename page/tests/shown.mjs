@@ -10,7 +10,8 @@ import { Browser } from "./browser.mjs";
 
 export const PAGE = new URL("../jp.html", import.meta.url).href;
 export const STORE = '{"b":[{"p":8,"t":"é"},{"p":12,"t":"x\\ty"},{"p":9,"t":"😀"}]}';
-const PROGRAM = fileURLToPath(new URL("../../crates/jp/out/jp", import.meta.url));
+// The proved program, unless another one is named.
+const PROGRAM = process.env.JP_PROGRAM ?? fileURLToPath(new URL("../../crates/jp/out/jp", import.meta.url));
 const ARROWS = { ArrowLeft: 37, ArrowUp: 38, ArrowRight: 39, ArrowDown: 40 };
 const KEYS = { Tab: 9, Enter: 13, Escape: 27, End: 35, Home: 36, ...ARROWS, ".": 190, "[": 219, "'": 222 };
 const MODIFIERS = { Alt: 1, Control: 2, Shift: 8 };

@@ -102,20 +102,6 @@ async function tellsAllWords() {
   }
 }
 
-async function tellsKeys() {
-  await open(null);
-  const keys = await textsOf("#keys kbd");
-  for (const key of ["Enter", "Shift+Enter", "Alt+↓, Alt+↑", "Esc", "Ctrl+."]) {
-    assert.ok(keys.includes(key), key);
-  }
-  // Tab leaves both editors.
-  for (const id of ["query", "document"]) {
-    await editor(id, "focus()");
-    await press("Tab");
-    assert.equal(await editor(id, "hasFocus()"), false);
-  }
-}
-
 async function linksToPages() {
   await open(null);
   const links = await browser.value('[...document.querySelectorAll("#reference > p a")].map((it) => it.href)');
@@ -124,4 +110,4 @@ async function linksToPages() {
   assert.equal(links.length, 4);
 }
 
-export const tests = [insertsSyntax, explainsFunctions, explainsParts, tellsAllWords, tellsKeys, linksToPages];
+export const tests = [insertsSyntax, explainsFunctions, explainsParts, tellsAllWords, linksToPages];
