@@ -10,6 +10,7 @@ use jp_explain::Reason;
 use jp_explain::Surroundings::Library;
 use jp_json::JsonReason;
 use std::alloc::Global;
+use std::process::Abort;
 use std::test::Fail;
 
 const DOCUMENT: &[u8] = br#"{"a":[1,[2,{}]]}"#;
@@ -126,15 +127,30 @@ fn checks_in_a_profile(rt: HostRuntime) {
     assert_eq!(rt; jp_version(), 256);
 }
 
+/// Asserts that a query is explained in a profile with that status, and that the part has this text.
+fn assert_explained(
+    rt: &impl Abort,
+    alloc: Global,
+    (query, profile, part): (&[u8], u32, u32),
+    expected: u32,
+    text: &[u8],
+) {
+    let mut out = [b'#'; 96];
+    let mut report = done(9, 9);
+    let status = jp_explain(alloc, query, profile, part, &mut out, &mut report);
+    assert_eq!(rt; (status, report.length), (expected, text.len()));
+    assert_eq!(rt; out.get(..report.length).unwrap_or(&[]), text);
+}
+
 #[test]
 fn explains_what_is_refused(rt: HostRuntime) -> Result<(), Fail> {
+    let alloc = rt.alloc();
+    let query = b"$[?@.a = 1]".as_slice();
     let sentence = Reason::Equals.sentence(Library);
-    let whole = format!(in rt.alloc();
-        "  $[?@.a = 1]\n          ^\n{sentence}\nTry: $[?@.a == 1]\n"
-    )?;
-    let rows: [(&[u8], u32, u32, u32, &[u8]); 8] = [
-        (b"$[?@.a = 1]", 0, 0, 0, whole.as_bytes()),
-        (b"$[?@.a = 1]", 0, 1, 0, sentence.as_bytes()),
+    let whole = format!(in alloc; "  $[?@.a = 1]\n          ^\n{sentence}\nTry: $[?@.a == 1]\n")?;
+    assert_explained(&rt, alloc, (query, 0, 0), 0, whole.as_bytes());
+    assert_explained(&rt, alloc, (query, 0, 1), 0, sentence.as_bytes());
+    let rows: [(&[u8], u32, u32, u32, &[u8]); 6] = [
         (b"$[?@.a = 1]", 0, 2, 0, b"$[?@.a == 1]"),
         (b"$.a", 0, 0, 0, b""),
         (b"$[?distinct(@.*)]", 1, 1, 0, b""),
@@ -143,67 +159,68 @@ fn explains_what_is_refused(rt: HostRuntime) -> Result<(), Fail> {
         (b"$[", 0, 3, 2, b""),
     ];
     for (query, profile, part, expected, text) in rows {
-        let mut out = [b'#'; 96];
-        let mut report = done(9, 9);
-        let status = jp_explain(rt.alloc(), query, profile, part, &mut out, &mut report);
-        assert_eq!(rt; (status, report.length), (expected, text.len()));
-        assert_eq!(rt; out.get(..report.length).unwrap_or(&[]), text);
+        assert_explained(&rt, alloc, (query, profile, part), expected, text);
     }
     Ok(())
 }
 
-/// A document, a part, and what is told: the status, the place, and the text.
-type DocumentRow<'a> = (&'static [u8], u32, u32, (usize, usize, usize), &'a [u8]);
+/// A document, a part, the status, and the place that is told.
+type DocumentRow = (&'static [u8], u32, u32, (usize, usize, usize));
+
+/// Asserts that a document is explained so, and that the part has this text.
+fn assert_document(
+    rt: &impl Abort,
+    alloc: Global,
+    (document, part, expected, (offset, line, column)): DocumentRow,
+    text: &[u8],
+) {
+    let mut out = [b'#'; 96];
+    let mut report = done(9, 9);
+    let mut place = Place {
+        offset: 9,
+        line: 9,
+        column: 9,
+    };
+    let status = jp_explain_document(alloc, document, part, &mut place, &mut out, &mut report);
+    assert_eq!(rt; (status, report.length), (expected, text.len()));
+    assert_eq!(rt;
+        place,
+        Place {
+            offset,
+            line,
+            column
+        }
+    );
+    assert_eq!(rt; out.get(..report.length).unwrap_or(&[]), text);
+}
 
 #[test]
 fn explains_what_is_no_document(rt: HostRuntime) -> Result<(), Fail> {
+    let alloc = rt.alloc();
     let comma = JsonReason::TrailingComma.sentence();
     let fraction = JsonReason::HasFraction.sentence();
-    let of_comma = format!(in rt.alloc(); "line 2, column 1: {comma}\n")?;
-    let of_fraction = format!(in rt.alloc(); "line 1, column 9, at $['a'][1]: {fraction}\n")?;
-    let rows: [DocumentRow<'_>; 9] = [
-        (b"[1,\n]", 0, 0, (4, 2, 1), of_comma.as_bytes()),
-        (
-            "[\"\u{e9}\",]".as_bytes(),
-            1,
-            0,
-            (6, 1, 6),
-            comma.as_bytes(),
-        ),
-        (b"[1,\n]", 2, 0, (4, 2, 1), b"TrailingComma"),
-        (b"{\"a\":[0,2.5]}", 0, 0, (8, 1, 9), of_fraction.as_bytes()),
-        (b"[-0]", 2, 0, (1, 1, 2), b"NegativeZero"),
-        (b"[\xff", 2, 0, (1, 1, 2), b"NotUtf8"),
-        (b"", 2, 0, (0, 1, 1), b"Empty"),
-        (b"[1]", 0, 0, (0, 0, 0), b""),
-        (b"[1,]", 3, 2, (0, 0, 0), b""),
+    let of_comma = format!(in alloc; "line 2, column 1: {comma}\n")?;
+    let of_fraction = format!(in alloc; "line 1, column 9, at $['a'][1]: {fraction}\n")?;
+    assert_document(
+        &rt,
+        alloc,
+        (b"[1,\n]", 0, 0, (4, 2, 1)),
+        of_comma.as_bytes(),
+    );
+    let accented = "[\"\u{e9}\",]".as_bytes();
+    assert_document(&rt, alloc, (accented, 1, 0, (6, 1, 6)), comma.as_bytes());
+    let fraction = (b"{\"a\":[0,2.5]}".as_slice(), 0, 0, (8, 1, 9));
+    assert_document(&rt, alloc, fraction, of_fraction.as_bytes());
+    let rows: [(DocumentRow, &[u8]); 6] = [
+        ((b"[1,\n]", 2, 0, (4, 2, 1)), b"TrailingComma"),
+        ((b"[-0]", 2, 0, (1, 1, 2)), b"NegativeZero"),
+        ((b"[\xff", 2, 0, (1, 1, 2)), b"NotUtf8"),
+        ((b"", 2, 0, (0, 1, 1)), b"Empty"),
+        ((b"[1]", 0, 0, (0, 0, 0)), b""),
+        ((b"[1,]", 3, 2, (0, 0, 0)), b""),
     ];
-    for (document, part, expected, (offset, line, column), text) in rows {
-        let mut out = [b'#'; 96];
-        let mut report = done(9, 9);
-        let mut place = Place {
-            offset: 9,
-            line: 9,
-            column: 9,
-        };
-        let status = jp_explain_document(
-            rt.alloc(),
-            document,
-            part,
-            &mut place,
-            &mut out,
-            &mut report,
-        );
-        assert_eq!(rt; (status, report.length), (expected, text.len()));
-        assert_eq!(rt;
-            place,
-            Place {
-                offset,
-                line,
-                column
-            }
-        );
-        assert_eq!(rt; out.get(..report.length).unwrap_or(&[]), text);
+    for (row, text) in rows {
+        assert_document(&rt, alloc, row, text);
     }
     Ok(())
 }
@@ -253,7 +270,7 @@ fn no_query(place: usize) -> Report {
 /// A report of steps that are used up.
 fn used_up(steps: u64) -> Report {
     Report {
-        status: 6,
+        status: 10,
         kind: 0,
         place: 0,
         length: 0,
@@ -345,7 +362,7 @@ const FIRST: [(&[u8], Limit, u32); 6] = [
             nodes: 1,
             bytes: 1,
         },
-        6,
+        10,
     ),
     (
         b"$.a[*]",

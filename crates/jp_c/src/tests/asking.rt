@@ -322,7 +322,7 @@ const KEPT: [(&[u8], Limit, u32, &[u8]); 6] = [
             nodes: 0,
             bytes: 0,
         },
-        6,
+        10,
         b"",
     ),
     (
