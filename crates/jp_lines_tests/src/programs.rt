@@ -170,15 +170,34 @@ fn ends_with_the_status_of_its_run(rt: HostRuntime) -> Result<(), AllocError> {
         "[1,2]\n[3,4]",
         true,
         (5, "2\n", "read fault\n", 1),
-    )?;
-    let extended = ["jp-lines", "count", "$[?distinct(@[*])]"];
-    let unknown = told(alloc, UNKNOWN.0, UNKNOWN)?;
-    let ended = (1, "", unknown.as_str(), 0);
-    assert_ends(&rt, alloc, &extended, "[]\n", false, ended)?;
-    let long = long_query(alloc)?;
-    let line = ["jp-lines", "count", long.as_str()];
-    let told = too_long(alloc)?;
-    assert_ends(&rt, alloc, &line, "[]\n", false, (1, "", told.as_str(), 0))
+    )
+}
+
+#[test]
+fn tells_why_its_query_is_refused(rt: HostRuntime) -> Result<(), AllocError> {
+    let unknown = told(rt.alloc(), UNKNOWN.0, UNKNOWN)?;
+    assert_ends(
+        &rt,
+        rt.alloc(),
+        &["jp-lines", "count", UNKNOWN.0],
+        "[]\n",
+        false,
+        (1, "", unknown.as_str(), 0),
+    )
+}
+
+#[test]
+fn tells_that_its_query_is_too_long(rt: HostRuntime) -> Result<(), AllocError> {
+    let long = long_query(rt.alloc())?;
+    let told = too_long(rt.alloc())?;
+    assert_ends(
+        &rt,
+        rt.alloc(),
+        &["jp-lines", "count", long.as_str()],
+        "[]\n",
+        false,
+        (1, "", told.as_str(), 0),
+    )
 }
 
 /// A query that `Extended` alone accepts.
