@@ -45,6 +45,7 @@ test-hostile: ## runs of the proved programs where memory, stack or streams fail
 	hostile/run
 	hostile/lines
 	hostile/queries
+	hostile/decimals
 	hostile/steps
 	hostile/json
 	hostile/readers

@@ -1,6 +1,7 @@
 """A plain evaluation of queries, written after RFC 9535 section by section and without any shortcut, and seeded
 queries and documents for it."""
 import random
+from decimal import Decimal
 from json import dumps
 
 DOCUMENTS = 4
@@ -10,6 +11,15 @@ MOST_NODES = 1_000
 NAMES = ["a", "b", "c"]
 TEXTS = ["", "a", "ab", "b"]
 PATTERNS = ["a", "a.*", "[ab]", "b|c", "("]
+
+
+class Written(Decimal):
+    """A number with the text that writes it (RFC 8259 section 6)."""
+
+    def __new__(cls, text):
+        number = super().__new__(cls, text)
+        number.text = text
+        return number
 
 
 class TooMany(Exception):
@@ -112,18 +122,23 @@ def operand(side, current, root):
     return nodes[0][1] if len(nodes) == 1 else NOTHING
 
 
+def type_of(value):
+    """The types of JSON's values, of which a number has one however it is written."""
+    return int if isinstance(value, Decimal) else type(value)
+
+
 def equal(left, right):
     """Section 2.3.5.2.2: values of different types are never equal."""
     if isinstance(left, list) and isinstance(right, list):
         return len(left) == len(right) and all(map(equal, left, right))
     if isinstance(left, dict) and isinstance(right, dict):
         return left.keys() == right.keys() and all(equal(left[name], right[name]) for name in left)
-    return left is right or (type(left) is type(right) and left == right)
+    return left is right or (type_of(left) is type_of(right) and left == right)
 
 
 def less(left, right):
     """Section 2.3.5.2.2."""
-    return type(left) is type(right) and isinstance(left, (int, str)) and not isinstance(left, bool) and left < right
+    return type_of(left) is type_of(right) and type_of(left) in (int, str) and left < right
 
 
 def compared(operator, left, right):
@@ -185,7 +200,7 @@ def nodes_text(argument):
 def operand_text(side):
     kind = side[0]
     if kind == "literal":
-        return dumps(side[1])
+        return json_text(side[1])
     if kind == "singular":
         return nodes_text(side[1])
     return f"{kind}({operand_text(side[1]) if kind == 'length' else nodes_text(side[1])})"
@@ -195,9 +210,42 @@ def path_text(location):
     return "$" + "".join(f"[{step}]" if isinstance(step, int) else f"['{step}']" for step in location)
 
 
+def json_text(value):
+    """A text of the value, in which each number is as it is written."""
+    if isinstance(value, list):
+        return "[" + ", ".join(map(json_text, value)) + "]"
+    if isinstance(value, dict):
+        return "{" + ", ".join(f"{dumps(name)}: {json_text(part)}" for name, part in value.items()) + "}"
+    return value.text if isinstance(value, Written) else dumps(value)
+
+
 def value_text(value):
     """The compact text, with members in the order of their names."""
-    return dumps(value, ensure_ascii=False, separators=(",", ":"), sort_keys=True)
+    if isinstance(value, list):
+        return "[" + ",".join(map(value_text, value)) + "]"
+    if isinstance(value, dict):
+        return "{" + ",".join(f"{value_text(name)}:{value_text(value[name])}" for name in sorted(value)) + "}"
+    return number_text(value) if isinstance(value, Decimal) else dumps(value, ensure_ascii=False)
+
+
+def number_text(number):
+    """The layout of RFC 8785 section 3.2.2.3, which is that of ECMAScript's Number::toString, over all digits."""
+    if number == 0:
+        return "0"
+    sign, parts, exponent = number.as_tuple()
+    written = "".join(map(str, parts)).lstrip("0")
+    digits = written.rstrip("0")
+    point = len(written) + exponent
+    rest = "." + digits[1:] if len(digits) > 1 else ""
+    if len(digits) <= point <= 21:
+        text = digits + (point - len(digits)) * "0"
+    elif 0 < point <= 21:
+        text = digits[:point] + "." + digits[point:]
+    elif -6 < point <= 0:
+        text = "0." + -point * "0" + digits
+    else:
+        text = f"{digits[0]}{rest}e{point - 1:+d}"
+    return sign * "-" + text
 
 
 # ---- seeded queries and documents
@@ -209,10 +257,16 @@ class Seeded:
     def __init__(self, seed):
         self.random = random.Random(seed)
 
+    def leaf(self):
+        return self.random.choice([0, 1, 2, -1, True, False, None, *TEXTS])
+
+    def literal(self):
+        return self.random.choice([0, 1, 2, 3, True, None, *TEXTS])
+
     def document(self, levels):
         kind = self.random.random()
         if levels == 0 or kind < 0.15:
-            return self.random.choice([0, 1, 2, -1, True, False, None, *TEXTS])
+            return self.leaf()
         width = self.random.choice([1, 1, 2, 2, 3])
         if kind < 0.55:
             return [self.document(levels - 1) for _ in range(width)]
@@ -253,7 +307,7 @@ class Seeded:
     def operand(self, filters):
         kind = self.random.random()
         if kind < 0.25:
-            return ("literal", self.random.choice([0, 1, 2, 3, True, None, *TEXTS]))
+            return ("literal", self.literal())
         if kind < 0.4:
             return ("singular", self.singular())
         if kind < 0.7:
@@ -292,4 +346,4 @@ class Seeded:
         """The text of a query, documents in lines, and the lines of the paths that it selects in them."""
         query, documents, found = self.asked()
         wanted = [f"{number}\t{path_text(location)}" for number, nodes in enumerate(found, 1) for location, _ in nodes]
-        return query_text(query), "".join(dumps(document) + "\n" for document in documents), wanted
+        return query_text(query), "".join(json_text(document) + "\n" for document in documents), wanted

@@ -15,9 +15,11 @@ _jp() {
 
 # The flags that the words before this one don't have, each of which is taken once; none after `--`.
 _jp_flags() {
-    local flag before=" ${COMP_WORDS[*]:2:COMP_CWORD-2} "
+    local flag before=" ${COMP_WORDS[*]:2:COMP_CWORD-2} " own=()
     [[ $before != *" -- "* ]] || return 0
-    for flag in --extended --explain; do
+    [[ ! ${COMP_WORDS[1]} =~ ^(eval|paths|both)$ ]] || own=(--first --exit-status)
+    [[ ! ${COMP_WORDS[1]} =~ ^(eval|both)$ ]] || own+=(--raw)
+    for flag in --extended --decimals --explain "${own[@]}"; do
         [[ $before == *" $flag "* ]] || echo "$flag"
     done
 }

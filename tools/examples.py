@@ -1,13 +1,13 @@
 #!/usr/bin/env python3
 """Runs the examples of a page by programs, and compares what they print, on both outputs, with what stands there.
 
-    tools/examples.py [--man] [--jp PROGRAM] [--jp-lines PROGRAM] [--status-of PROGRAM] [--without WORD] PAGE
+    tools/examples.py [--man] [--jp PROGRAM] [--jp-lines PROGRAM] [--status-of PROGRAM] [--without WORD].. PAGE
 
 An example is a line that begins with "$ ", indented or in a fence; the lines after it there are what it prints. With
 --man the page is one as `man` shows it, where an empty line ends an example and EXAMPLES stands before them. An
 example names a program as `bin/jp`, or `jp`: it is run in a folder where that is the program given. With --status-of
 each example also has to end with the status with which it ends where that program is `jp`. With --without those
-examples are left out that have the word in them.
+examples are left out that have the word in them, or one of several.
 """
 import os
 import re
@@ -76,7 +76,7 @@ def faults_of(found, programs, status_of=None):
 
 
 def main(words):
-    programs, status_of, without, examples_of = {}, None, None, of_page
+    programs, status_of, without, examples_of = {}, None, set(), of_page
     while len(words) > 1:
         word = words.pop(0)
         if word == "--man":
@@ -86,11 +86,11 @@ def main(words):
         elif word == "--status-of":
             status_of = words.pop(0)
         elif word == "--without":
-            without = words.pop(0)
+            without.add(words.pop(0))
         else:
             sys.exit(__doc__)
     with open(words[0], encoding="utf-8") as file:
-        found = [example for example in examples_of(file.read()) if without not in example[0].split()]
+        found = [example for example in examples_of(file.read()) if without.isdisjoint(example[0].split())]
     faults = list(faults_of(found, programs, status_of))
     print("\n".join(faults), end="\n" if faults else "")
     print(f"examples of {os.path.basename(words[0])}: {len(found) - len(faults)} passed, {len(faults)} failed")

@@ -108,10 +108,11 @@ enum {
 
 /* What is wrong with a document, in `report->kind` where the status is JP_DOCUMENT_REFUSED. */
 enum {
-    JP_NOT_JSON = 1,          /* no JSON, no UTF-8, or deeper than 127 levels */
-    JP_NUMBER_NOT_WHOLE = 2,  /* the text is the normalized path of the first number that is not */
-    JP_LIST_TOO_LONG = 3,     /* more than (2^53)-1 items */
-    JP_DOCUMENT_TOO_LARGE = 5 /* 2^32 bytes or more */
+    JP_NOT_JSON = 1,              /* no JSON, no UTF-8, or deeper than 127 levels */
+    JP_NUMBER_NOT_WHOLE = 2,      /* the text is the normalized path of the first number that is not */
+    JP_LIST_TOO_LONG = 3,         /* more than (2^53)-1 items */
+    JP_NUMBER_BEYOND_DECIMAL = 5, /* the text is the normalized path of the first number that is too much for a decimal */
+    JP_DOCUMENT_TOO_LARGE = 6     /* 2^32 bytes or more */
 };
 
 /* Up to here. */
@@ -197,7 +198,8 @@ uint32_t jp_explain(const uint8_t *query, size_t query_length, uint32_t profile,
 /* Why bytes are no document, and where: the place of the first wrong byte, and as text the part that is
  * asked for. The status is JP_DONE, also where there is no text and no place, since they are a document.
  * It is JP_DOCUMENT_REFUSED of 2^32 bytes or more, which are not read. The names of reasons stay, and new
- * ones may come; what sentences say may change. */
+ * ones may come; what sentences say may change. Of JSON Lines, where each line is a document, the reason is
+ * AfterValue: ask a query of each line, by jp_ask. */
 uint32_t jp_explain_document(const uint8_t *document, size_t document_length, uint32_t part,
                              struct jp_place *place,
                              uint8_t *out, size_t out_length, struct jp_report *report);

@@ -314,10 +314,11 @@ static void try_names(void) {
         {JP_DOCUMENT_REFUSED, JP_NOT_JSON, "NotJson"},
         {JP_DOCUMENT_REFUSED, JP_NUMBER_NOT_WHOLE, "NotWhole"},
         {JP_DOCUMENT_REFUSED, JP_LIST_TOO_LONG, "ListTooLong"},
+        {JP_DOCUMENT_REFUSED, JP_NUMBER_BEYOND_DECIMAL, "NumberRange"},
         {JP_DOCUMENT_REFUSED, JP_DOCUMENT_TOO_LARGE, "DocumentTooLarge"},
         {JP_QUERY_REFUSED, 0, NULL},
         {JP_QUERY_REFUSED, 12, NULL},
-        {JP_DOCUMENT_REFUSED, 6, NULL},
+        {JP_DOCUMENT_REFUSED, 7, NULL},
         {JP_NO_MEMORY, 1, NULL},
     };
     for (size_t at = 0; at < sizeof named / sizeof named[0]; at += 1) {

@@ -49,6 +49,9 @@ const (
 	// DocumentListTooLong: more than (2^53)-1 items.
 	DocumentListTooLong DocumentKind = "ListTooLong"
 
+	// DocumentNumberRange: the text is the normalized path of the first number that is too much for a decimal.
+	DocumentNumberRange DocumentKind = "NumberRange"
+
 	// DocumentTooLarge: 2^32 bytes or more.
 	DocumentTooLarge DocumentKind = "DocumentTooLarge"
 )

@@ -123,6 +123,7 @@ export class DocumentError extends Error {
     | "NotJson"
     | "NotWhole"
     | "ListTooLong"
+    | "NumberRange"
     | "DocumentTooLarge";
   /**
    * Of `NotWhole`, the normalized path of the first number that is not a whole one of 64 bits. Of a value with NaN, an

@@ -6,6 +6,9 @@ import { placesOf } from "./places.mjs";
 
 const NEWLINE = 10;
 const NO_MEMORY_HERE = "The memory that this page may use did not suffice.";
+// In bytes: of a number that is refused no more is told.
+const LONGEST_NUMBER = 100;
+const NUMBER = /^-?\d+(\.\d+)?([eE][+-]?\d+)?/;
 // So many lines that are refused are told one by one.
 const MOST_REFUSED = 100;
 
@@ -17,12 +20,19 @@ export function refusal(engine, { status, kind, place, text }, query, profile, b
     case QUERY_REFUSED:
       return { query: { kind: engine.kindName(status, kind), place, ...engine.explain(query, profile) } };
     case DOCUMENT_REFUSED:
-      return { document: { kind: engine.kindName(status, kind), path, ...engine.explainDocument(bytes) } };
+      return { document: { kind: engine.kindName(status, kind), path, ...whereRefused(engine, bytes) } };
     case NO_MEMORY:
       return { fault: NO_MEMORY_HERE };
     default:
       return null;
   }
+}
+
+/** Where a document is refused and why, and the number that stands there, if any. */
+function whereRefused(engine, bytes) {
+  const why = engine.explainDocument(bytes);
+  const here = String.fromCharCode(...bytes.subarray(why.offset, why.offset + LONGEST_NUMBER));
+  return { ...why, number: here.match(NUMBER)?.[0] };
 }
 
 /** Where each line of bytes ends, which is before its newline. */

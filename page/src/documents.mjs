@@ -152,14 +152,15 @@ export class DocumentBox {
     }
   }
 
-  /** Marks each place that is refused, or the character before one at the end, of a document that is here whole. */
+  /** Marks each number or character that is refused, or the one before the end, of a document that is here whole. */
   #mark(refused) {
     settle(this.#editor);
     this.#marks.splice(0).forEach((mark) => mark.clear());
-    for (const { line, column } of this.#long === null ? refused : []) {
+    for (const { line, column, number } of this.#long === null ? refused : []) {
       const characters = [...(this.#editor.getLine(line - 1) ?? "")].slice(0, column);
-      const to = characters.join("").length;
-      const from = to - (characters.at(-1) ?? "").length;
+      const behind = characters.join("").length;
+      const from = behind - (characters.at(-1) ?? "").length;
+      const to = Math.max(behind, from + (number ?? "").length);
       const [start, end] = [from, to].map((ch) => ({ line: line - 1, ch }));
       this.#marks.push(this.#editor.markText(start, end, { className: "refused-here" }));
     }

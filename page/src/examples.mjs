@@ -1,19 +1,21 @@
 /** Queries over documents, by the sections of RFC 9535 whose tables have them; numbers are whole here. */
 
-const STORE = `{
+/** The document of section 1.5, with the prices of its books. */
+function bookStore(first, second, third, fourth) {
+  return `{
   "store": {
     "book": [
-      { "category": "reference", "price": 8,
+      { "category": "reference", "price": ${first},
         "author": "Nigel Rees",
         "title": "Sayings of the Century" },
-      { "category": "fiction", "price": 12,
+      { "category": "fiction", "price": ${second},
         "author": "Evelyn Waugh",
         "title": "Sword of Honour" },
-      { "category": "fiction", "price": 8,
+      { "category": "fiction", "price": ${third},
         "author": "Herman Melville",
         "title": "Moby Dick",
         "isbn": "0-553-21311-3" },
-      { "category": "fiction", "price": 22,
+      { "category": "fiction", "price": ${fourth},
         "author": "J. R. R. Tolkien",
         "title": "The Lord of the Rings",
         "isbn": "0-395-19395-8" }
@@ -21,6 +23,7 @@ const STORE = `{
     "bicycle": { "color": "red", "price": 399 }
   }
 }`;
+}
 
 const LETTERS = '["a", "b", "c", "d", "e", "f", "g"]';
 
@@ -41,7 +44,7 @@ const PEOPLE = `[
 export const EXAMPLES = [
   {
     title: "1.5 A book store",
-    document: STORE,
+    document: bookStore(8, 12, 8, 22),
     queries: [
       "$..book[?@.price<10].title",
       "$.store.book[*].author",
@@ -103,7 +106,11 @@ export const EXAMPLES = [
     document: FILTERED,
     queries: ["$.a[01]", "$['é😀'][01]", "$.a[?@>3.5]", "$[?@.*==1]", "$[?foo(@)]", "$.a[?(@.b"],
   },
-  { title: "A refused document", document: '{"a": [0, {"b": 2.5}]}', queries: ["$.a"] },
+  {
+    title: "A refused document: the book store with the prices of RFC 9535",
+    document: bookStore("8.95", "12.99", "8.99", "22.99"),
+    queries: ["$..book[?@.price<10].title"],
+  },
   {
     title: "Beyond the standard",
     document: "[[1], [1, 2]]",

@@ -23,7 +23,7 @@ async function hasAnEditor() {
 
 async function showsRefusedDocuments() {
   for (const [document, place, sentence, path, at] of [
-    ['{"a":[0,{"b":2.5}]}', "line 1, column 14", sentenceOf("Document", "HasFraction"), "$['a'][1]['b']", ["2"]],
+    ['{"a":[0,{"b":2.5}]}', "line 1, column 14", sentenceOf("Document", "HasFraction"), "$['a'][1]['b']", ["2.5"]],
     ['["é",\n 2,]', "line 2, column 4", sentenceOf("Document", "TrailingComma"), null, ["]"]],
   ]) {
     await open({ q: "$.a", d: document });
@@ -36,6 +36,49 @@ async function showsRefusedDocuments() {
   await open({ q: "$.a", d: '{"a":[0,{"b":2.5}]}' });
   await click("#document-outcome button");
   await becomes(() => marked("document", "current"), ["2.5"]);
+}
+
+/** By hand: what is said of a number that is refused, and what to write in its place. */
+const NUMBERS = [
+  ["8.95", '8.95 in a smaller unit, as prices in cents, or as the text "8.95".', '"8.95"'],
+  ["-5e-1", '-5e-1 in a smaller unit, as prices in cents, or as the text "-5e-1".', '"-5e-1"'],
+  ["1.0", "1.0 as 1.", "1"],
+  ["1e2", "1e2 as 100.", "100"],
+  ["-2.50E+1", "-2.50E+1 as -25.", "-25"],
+  ["0.5e1", "0.5e1 as 5.", "5"],
+  ["-0", "-0 as 0.", "0"],
+  ["0.0e9", "0.0e9 as 0.", "0"],
+  ["18446744073709551615.0", "18446744073709551615.0 as 18446744073709551615.", "18446744073709551615"],
+  ["-9223372036854775808e0", "-9223372036854775808e0 as -9223372036854775808.", "-9223372036854775808"],
+  ["18446744073709551616", '18446744073709551616 as the text "18446744073709551616".', '"18446744073709551616"'],
+  ["-9223372036854775809", '-9223372036854775809 as the text "-9223372036854775809".', '"-9223372036854775809"'],
+  ["1e30", '1e30 as the text "1e30".', '"1e30"'],
+  ["1e400", '1e400 as the text "1e400".', '"1e400"'],
+];
+
+async function saysWhatToWriteForNumbers() {
+  for (const [number, words, other] of NUMBERS) {
+    await open({ q: "$[1]", d: `["é",${number}]` });
+    const isLarge = words.includes("as the text") && !words.includes("unit");
+    const start = isLarge ? "Numbers are whole here, and of 64 bits" : "Numbers are whole here";
+    assert.deepEqual(await textsOf("#document-outcome .warned"), [`${start}: write ${words}`], number);
+    assert.deepEqual(await textsOf("#document-outcome .warned code"), [number, other]);
+    await type("document", `["é",${other}]`);
+    await answered();
+    assert.equal(await textOf("#document-outcome"), "", number);
+    assert.deepEqual(await textsOf("#nodes .value"), [other]);
+  }
+  const long = `0.${"3".repeat(1000)}`;
+  await open({ q: "$", d: long });
+  const [first, second] = await textsOf("#document-outcome .warned code");
+  assert.equal(first, `${long.slice(0, 40)}…`);
+  assert.equal(second, `"${first}"`);
+  // Where no number is what is refused.
+  for (const document of ["[1,]", "[01]", "[1.]", "[NaN]", "[1"]) {
+    await open({ q: "$", d: document });
+    assert.equal(await countOf("#document-outcome .wrong"), 1, document);
+    assert.equal(await countOf("#document-outcome .warned"), 0, document);
+  }
 }
 
 async function indents() {
@@ -120,6 +163,7 @@ async function keepsTheDocumentWhereAFileFails() {
 export const tests = [
   hasAnEditor,
   showsRefusedDocuments,
+  saysWhatToWriteForNumbers,
   indents,
   goesOnMeanwhile,
   showsPartsOfLongDocuments,

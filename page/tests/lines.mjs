@@ -25,7 +25,9 @@ async function readsJsonLines() {
   await answered();
   assert.equal(await isByLines(), true);
   assert.deepEqual(await textsOf("#nodes li > .quiet, #nodes .path"), NODES);
-  assert.deepEqual(await seen("> p"), ["2 of 5 lines are refused:"]);
+  // Of the numbers that are refused the first is told.
+  const words = 'Numbers are whole here: write 2.5 in a smaller unit, as prices in cents, or as the text "2.5".';
+  assert.deepEqual(await seen("> p"), ["2 of 5 lines are refused:", words]);
   const [first, second, ...others] = await seen("li");
   assert.match(first, /^NotWhole in line 4, column 6: .* \$\['a'\]$/);
   assert.equal(second, `NotJson in line 5, column 4: ${sentenceOf("Document", "TrailingComma")}`);

@@ -1,6 +1,7 @@
 /** Tests of how the page looks: its names, contrast, widths, print and motion, and in browsers that lack something. */
 import assert from "node:assert/strict";
 import { join } from "node:path";
+import { EXAMPLES } from "../src/examples.mjs";
 import {
   PAGE, STORE, answered, becomes, browser, click, countOf, editor, listed, open, press, textOf, type,
 } from "./shown.mjs";
@@ -8,6 +9,7 @@ import {
 const WIDTHS = [360, 800, 1280];
 const WINDOWS = WIDTHS.flatMap((width) => ["light", "dark"].map((scheme) => ({ width, height: 800, scheme })));
 const [, , , pictures] = process.argv;
+const { document: REFUSED } = EXAMPLES.find(({ title }) => title.startsWith("A refused document"));
 
 /** What is said with less contrast than 4.5 (WCAG 2.2, success criterion 1.4.3). What can't be pressed is left out. */
 const FAINT = `(() => {
@@ -86,6 +88,10 @@ async function isWholeInEachWindow() {
     await isWhole("refused-query", window);
     await open({ q: "$", d: `{"${"long".repeat(40)}":[0,2.5]}` }, window);
     await isWhole("refused-document", window);
+    await open({ q: "$..book[0].title", d: REFUSED }, window);
+    await isWhole("refused-number", window);
+    await open({ q: "$", d: '{"distance":18446744073709551616}' }, window);
+    await isWhole("refused-large-number", window);
     await open({ q: "", d: "" }, window);
     await isWhole("empty", window);
     await open({ q: "$..a", d: '{"a":1}\n{"a":[2,{"a":3},4,5]}\n{"a":2.5}', l: "1" }, window);

@@ -117,7 +117,7 @@ async function movesNothing() {
       await answered();
       assert.deepEqual(await boxOf("#document"), before, `${query} at ${width}`);
     }
-    for (const document of ['{"a":2.5}', "[1,]", ""]) {
+    for (const document of ['{"a":2.5}', '{"store":{"book":[{"price":8.95}]}}', "[1,]", ""]) {
       await type("document", document);
       await answered();
       assert.deepEqual((await boxOf(".nodes"))[0], below[0], `${document} at ${width}`);

@@ -1,5 +1,6 @@
 """Queries over documents, as Python has them."""
 import functools
+import itertools
 import json
 import operator
 import os
@@ -16,6 +17,8 @@ from ._paths import Step, pointer_of, steps_of
 _LARGEST_PAGE = 64
 # In characters: where lines are longer, what it takes to make values one by one is little beside the values.
 _LONG_LINE = 1 << 10
+# The values of so few matches take less one by one.
+_FEW = 8
 
 
 class Match:
@@ -31,7 +34,7 @@ class Match:
 
     def __init__(self, path: str, text: str) -> None:
         self._line = f"{path}\t{text}"
-        self._page: Optional[_Page] = None
+        self._page: Union[_Page, _Alone, None] = _ALONE
 
     @property
     def path(self) -> str:
@@ -43,13 +46,11 @@ class Match:
 
     @property
     def value(self) -> Any:
-        try:
-            return self._value
-        except AttributeError:
-            pass
         page = self._page
-        self._value = json.loads(self.text) if page is None else page.value(self._at)
-        self._page = None
+        if page is not None:
+            self._value = page.value(self)
+            # Last, since another thread that finds no page takes the value.
+            self._page = None
         return self._value
 
     @property
@@ -94,11 +95,23 @@ class _Page:
         self._lines = lines
         self._values: Optional[List[Any]] = None
 
-    def value(self, at: int) -> Any:
+    def value(self, match: Match) -> Any:
         if self._values is None:
             texts = [line.partition("\t")[2] for line in self._lines]
             self._values = json.loads(f"[{','.join(texts)}]")
-        return self._values[at]
+        return self._values[match._at]
+
+
+class _Alone:
+    """In place of a page, where the value of a match is made by itself."""
+
+    __slots__ = ()
+
+    def value(self, match: Match) -> Any:
+        return json.loads(match.text)
+
+
+_ALONE = _Alone()
 
 
 class Query:
@@ -472,7 +485,7 @@ def _compiled_text(text: str, profile: int) -> Query:
 
 def _match(line: str) -> Match:
     match = _bare(Match)
-    match._line, match._page = line, None
+    match._line, match._page = line, _ALONE
     return match
 
 
@@ -481,15 +494,20 @@ _bare = object.__new__
 
 def _matches(text: str) -> List[Match]:
     lines = _lines(text)
-    if len(text) > _LONG_LINE * len(lines):
-        return [_match(line) for line in lines]
-    matches: List[Match] = []
-    size = 1
+    return list(_matches_of(lines, len(lines), len(text)))
+
+
+def _matches_of(lines: Iterable[str], count: int, size: int) -> Iterator[Match]:
+    """A match for each of so many lines of so many characters in all, which are taken as matches are asked for: by some
+    at once, unless they are few or long."""
+    if count <= _FEW or size > _LONG_LINE * count:
+        yield from map(_match, lines)
+        return
+    rest, most = iter(lines), 1
     # Who asks for the first value alone waits for that one.
-    while len(matches) < len(lines):
-        matches += _page_of(lines[len(matches) : len(matches) + size])
-        size = min(2 * size, _LARGEST_PAGE)
-    return matches
+    while page := list(itertools.islice(rest, most)):
+        yield from _page_of(page)
+        most = min(2 * most, _LARGEST_PAGE)
 
 
 def _page_of(lines: List[str]) -> List[Match]:
@@ -512,7 +530,7 @@ def _each(query: KeptQuery, document: KeptDocument, most: Most) -> Iterator[Matc
     cursor = Cursor()
     lines = query.ask(document, _numbers.BOTH, cursor, most)
     while lines:
-        yield from map(_match, _each_line(lines))
+        yield from _matches_of(_each_line(lines), lines.count("\n"), len(lines))
         lines = query.ask(document, _numbers.BOTH, cursor, most)
 
 

@@ -116,6 +116,8 @@ pub enum DocumentKind {
     NotWhole,
     /// More than (2^53)-1 items.
     ListTooLong,
+    /// The text is the normalized path of the first number that is too much for a decimal.
+    NumberRange,
     /// 2^32 bytes or more.
     DocumentTooLarge,
 }
@@ -126,7 +128,8 @@ impl DocumentKind {
             1 => Some(DocumentKind::NotJson),
             2 => Some(DocumentKind::NotWhole),
             3 => Some(DocumentKind::ListTooLong),
-            5 => Some(DocumentKind::DocumentTooLarge),
+            5 => Some(DocumentKind::NumberRange),
+            6 => Some(DocumentKind::DocumentTooLarge),
             _ => None,
         }
     }
@@ -137,6 +140,7 @@ impl DocumentKind {
             DocumentKind::NotJson => "NotJson",
             DocumentKind::NotWhole => "NotWhole",
             DocumentKind::ListTooLong => "ListTooLong",
+            DocumentKind::NumberRange => "NumberRange",
             DocumentKind::DocumentTooLarge => "DocumentTooLarge",
         }
     }

@@ -5,9 +5,10 @@ use Rattle.std.proofs.Common.{arith, inl, inr, length, string_bytes, subst, sym}
 use Rattle.std.specs.declared.alloc.Global.{Global}
 use Rattle.jp_command.specs.Lines.{lines_of}
 use Rattle.jp_command.specs.Selecting.{nodes_behind}
-use Rattle.jp_command.specs.declared.lines.Form.{Form}
+use Rattle.jp_command.specs.declared.form.Form.{Form}
 use Rattle.jp_document.specs.Document.{IsDocument}
 use Rattle.jp_document.specs.Value.{Value}
+use Rattle.jp_decimal.specs.declared.numbers.Numbers.TheVariants.{Whole}
 use Rattle.jp_evaluate.specs.Plan.{IsReadToAnswer, nodes_read}
 use Rattle.jp_held.specs.declared.portion.Excerpt.{Excerpt}
 use Rattle.jp_limit.specs.OutputLimit.{StaysWithin}
@@ -44,7 +45,7 @@ given-none from count f q bytes most d TooManyBytes is fits why = (d, is, fits, 
 
 -- what is asked of what was read of a document for the query is asked of the document
 module _ (from count : ℕ) (f : Form) (q : QueryTree) (bytes : List ℕ) (most : OutputLimit) (e : Excerpt)
-    (fits : Fits bytes) (read : IsReadToAnswer q bytes e) where
+    (fits : Fits bytes) (read : IsReadToAnswer Whole q bytes e) where
   pub read_answer : (r : Result (Unit {0}) FindFault) (text : List ℕ)
       → OnOk r (text ≡ lines_of f (nodes_behind from (most_of count) (nodes_read q e)))
       → OnOk r (StaysWithin most (length (nodes_behind from (most_of count) (nodes_read q e))) (length text))

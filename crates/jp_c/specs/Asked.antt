@@ -6,7 +6,7 @@ use Rattle.jp_canon.specs.Canon.{canon_of}
 use Rattle.jp_check.specs.Accepted.{IsAcceptedAs}
 use Rattle.jp_check.specs.declared.profile.Profile.{Profile}
 use Rattle.jp_command.specs.Lines.{output_of}
-use Rattle.jp_command.specs.declared.lines.Form.{Form}
+use Rattle.jp_command.specs.declared.form.Form.{Form}
 use Rattle.jp_document.specs.Document.{IsDocument, IsDocumentFault}
 use Rattle.jp_document.specs.Value.{Value}
 use Rattle.jp_document.specs.declared.fault.DocumentFault.TheVariants as document
@@ -29,13 +29,13 @@ pub record IsAcceptedInBytes (profile : Profile) (bytes : List ℕ) (q : QueryTr
   pub accepted : IsAcceptedAs profile (chars bytes) q
 
 -- the bytes are no text: `Syntax` at the first byte that belongs to none
-pub record IsNoText (bytes : List ℕ) (r : Refusal) : Type 0 where
+pub record IsRefusedAsBytes (bytes : List ℕ) (r : Refusal) : Type 0 where
   pub none : ¬ IsUtf8 bytes
   pub is : r ≡ record { kind = Syntax; place = utf8_valid_len bytes }
 
 -- the bytes are no text, or one that in the profile is refused so for what it is
 pub data RefusesBytes (profile : Profile) (bytes : List ℕ) (r : Refusal) : Type 0 where
-  no_text : IsNoText bytes r → RefusesBytes profile bytes r
+  no_text : IsRefusedAsBytes bytes r → RefusesBytes profile bytes r
   refused : IsUtf8 bytes → RefusesText profile (chars bytes) r → RefusesBytes profile bytes r
 
 -- why no query is read; running out of memory says nothing of the bytes

@@ -5,7 +5,7 @@ use Rattle.std.specs.Vec.{vec_ptr}
 use Rattle.std.specs.declared.alloc.Global.{Global}
 use Rattle.jp_command.specs.Lines.{lines_of}
 use Rattle.jp_command.specs.Selecting.{nodes_behind}
-use Rattle.jp_command.specs.declared.lines.Form.{Form}
+use Rattle.jp_command.specs.declared.form.Form.{Form}
 use Rattle.jp_document.specs.Document.{IsDocument}
 use Rattle.jp_document.specs.Node.{Node}
 use Rattle.jp_document.specs.Value.{Value}

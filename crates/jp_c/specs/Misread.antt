@@ -2,6 +2,7 @@
 use Rattle.std.specs.Prelude.{◌≡◌, ℕ, List, [], ◌++◌, codes}
 use Rattle.jp_document.specs.Document.{IsDocument}
 use Rattle.jp_document.specs.Value.{Value}
+use Rattle.jp_decimal.specs.declared.numbers.Numbers.TheVariants.{Whole}
 use Rattle.jp_json.specs.Misreading.{IsMisreading}
 use Rattle.jp_json.specs.Names.{name_of}
 use Rattle.jp_json.specs.Told.{misreading_text}
@@ -12,7 +13,7 @@ use Rattle.jp_c.specs.declared.misread.Place.{Place}
 
 -- the bytes are no document, by a reason that is told at this byte
 abbrev pub IsMisreadAt : List ℕ → ℕ → Type 0
-IsMisreadAt bytes place = (m : Misreading) × IsMisreading bytes m × (place ≡ m.offset)
+IsMisreadAt bytes place = (m : Misreading) × IsMisreading Whole bytes m × (place ≡ m.offset)
 
 -- no place
 abbrev pub nowhere : Place
@@ -31,7 +32,7 @@ part_text Reason m = name_of m.reason
 -- the bytes are misread so, and what is told is that part of the misreading, and its place
 pub record TellsMisreading (part : DocumentPart) (bytes told : List ℕ) (place : Place) : Type 0 where
   pub m : Misreading
-  pub is : IsMisreading bytes m
+  pub is : IsMisreading Whole bytes m
   pub text : told ≡ part_text part m
   pub at : place ≡ place_of_misreading m
 

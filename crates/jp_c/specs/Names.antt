@@ -12,5 +12,5 @@ pub data IsKindName (status number : ℕ) (name : List ℕ) : Type 0 where
       → IsKindName status number name
   of_document : (fault : DocumentFault) → status ≡ 3 → document_fault_number fault ≡ number
       → name ≡ document_fault_name fault → IsKindName status number name
-  too_large : status ≡ 3 → number ≡ 5 → name ≡ codes "DocumentTooLarge"
+  too_large : status ≡ 3 → number ≡ 6 → name ≡ codes "DocumentTooLarge"
       → IsKindName status number name

@@ -2,8 +2,8 @@
 use Rattle.std.specs.Prelude.{ℕ, ◌==◌, if◌then◌else◌, Option, Some, None}
 use Rattle.jp_check.specs.declared.profile.Profile.{Profile}
 use Rattle.jp_check.specs.declared.profile.Profile.TheVariants.{Standard, Extended}
-use Rattle.jp_command.specs.declared.lines.Form.{Form}
-use Rattle.jp_command.specs.declared.lines.Form.TheVariants.{Values, Paths, Both}
+use Rattle.jp_command.specs.declared.form.Form.{Form}
+use Rattle.jp_command.specs.Lines.{both, paths, values}
 use Rattle.jp_c.specs.declared.explained.Part.{Part}
 use Rattle.jp_c.specs.declared.explained.Part.TheVariants.{Whole, Sentence, Suggestion}
 use Rattle.jp_c.specs.declared.misread.DocumentPart.{DocumentPart}
@@ -12,7 +12,7 @@ use Rattle.jp_c.specs.declared.misread.DocumentPart.TheVariants as document
 -- the form of a number, if there is one
 abbrev pub form_of : ℕ → Option Form
 form_of n =
-    if n == 0 then Some Values else if n == 1 then Some Paths else if n == 2 then Some Both else None
+    if n == 0 then Some values else if n == 1 then Some paths else if n == 2 then Some both else None
 
 -- the profile of a number, if there is one
 abbrev pub profile_of : ℕ → Option Profile

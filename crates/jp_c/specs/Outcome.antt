@@ -2,7 +2,7 @@
 use Rattle.std.specs.Prelude.{◌≡◌, ℕ, nat_le, if◌then◌else◌, List, [], ◌++◌, length, drop}
 use Rattle.std.specs.Prelude.{string_bytes}
 use Rattle.jp_document.specs.Faults.{document_fault_number}
-use Rattle.jp_document.specs.declared.fault.DocumentFault.TheVariants.{NotWhole}
+use Rattle.jp_document.specs.declared.fault.DocumentFault.TheVariants.{NotWhole, NumberRange}
 use Rattle.jp_query.specs.Refusal.{number_of}
 use Rattle.jsonpath.specs.declared.fault.FindFault.TheVariants as find
 use Rattle.jp_c.specs.declared.outcome.Outcome as outcome
@@ -28,7 +28,7 @@ abbrev pub kind_of : outcome.Outcome → ℕ
 kind_of (Fault (find.Query r)) = number_of r.kind
 kind_of (Fault (find.Document f)) = document_fault_number f
 kind_of (Misread f place) = document_fault_number f
-kind_of (Fault find.DocumentTooLarge) = 5
+kind_of (Fault find.DocumentTooLarge) = 6
 kind_of _ = 0
 
 -- the byte of the query or of the document at which it is refused
@@ -37,11 +37,14 @@ place_of (Fault (find.Query r)) = r.place
 place_of (Misread f place) = place
 place_of _ = 0
 
--- the text: what was asked for, or the path of the first number that is not whole
+-- the text: what was asked for, or the path of the first number that is not whole or out of
+-- range
 abbrev pub told_text : outcome.Outcome → List ℕ
 told_text (Text text) = string_bytes text
 told_text (Fault (find.Document (NotWhole path))) = string_bytes path
 told_text (Misread (NotWhole path) place) = string_bytes path
+told_text (Fault (find.Document (NumberRange path))) = string_bytes path
+told_text (Misread (NumberRange path) place) = string_bytes path
 told_text _ = []
 
 -- the report of an outcome for which so many steps were made

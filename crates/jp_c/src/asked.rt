@@ -3,6 +3,7 @@
 ghost use Rattle.std.specs.Prelude.{◌≡◌, ◌⊎◌, IfErr, IfOk, length, string_bytes};
 ghost use Rattle.jp_command.specs.Lines.{output_of};
 ghost use Rattle.std.specs.Str.{IsUtf8};
+ghost use Rattle.jp_decimal.specs.declared.numbers.Numbers.TheVariants.{Whole};
 ghost use Rattle.jp_document.specs.Document.{IsDocument};
 ghost use Rattle.jp_evaluate.specs.Nodelist.{nodelist};
 ghost use Rattle.jp_evaluate.specs.Plan.{HoldsPortion, IsReadToAnswer};
@@ -11,7 +12,7 @@ ghost use Rattle.jp_held.specs.declared.portion.Excerpt.TheVariants.{Document};
 ghost use Rattle.jp_limit.specs.OutputLimit.{StaysWithin};
 ghost use Rattle.jp_query.specs.declared.refusal.RefusalKind.TheVariants.{NoMemory};
 ghost use Rattle.jp_tree.specs.Views.{query_of};
-ghost use Rattle.jp_c.specs.Asked.{IsAnswer, IsAcceptedInBytes, IsCanonOf, IsNoAnswer, IsNoText};
+ghost use Rattle.jp_c.specs.Asked.{IsAnswer, IsAcceptedInBytes, IsCanonOf, IsNoAnswer, IsRefusedAsBytes};
 ghost use Rattle.jp_c.specs.Asked.{IsNoDocument, IsQueryFault, RefusesBytes};
 ghost use Rattle.jp_c.specs.Limit.{output_within};
 ghost use Rattle.jp_c.specs.Private.Subjects.{IsReadAs};
@@ -26,6 +27,7 @@ use crate::memory::Memory;
 use jp_canon::canon;
 use jp_check::{Checked, Profile, read_query};
 use jp_command::Form;
+use jp_decimal::Numbers;
 use jp_evaluate::Plan;
 use jp_flat::{Flat, FlatValue, Room};
 use jp_held::read_flat;
@@ -38,7 +40,7 @@ use std::alloc::Global;
 fn text_of(query: &[u8]) -> Result<&str, Refusal>
     ensures same { IfOk result (λ text. text.now ≡ query.now) }
     ensures utf8 { IfOk result (λ text. IsUtf8 query.now) }
-    ensures none { IfErr result (IsNoText query.now) }
+    ensures none { IfErr result (IsRefusedAsBytes query.now) }
 {
     match str::from_utf8(query) {
         Ok(text) => Ok(text),
@@ -83,7 +85,7 @@ pub(crate) fn read_document(alloc: Global, bytes: &[u8]) -> Result<Flat<'_>, Fin
     ensures fault { IfErr result (IsNoDocument bytes.now) }
 {
     check_size(bytes)?;
-    Ok(read_flat(alloc, bytes)?)
+    Ok(read_flat(alloc, bytes, Numbers::Whole)?)
 }
 
 /// The document that these bytes are, of which what the plan does not ask for may be left out.
@@ -93,11 +95,11 @@ pub(crate) fn read_for<'t>(
     plan: &Plan,
 ) -> Result<Flat<'t>, FindFault>
     ensures document { IfOk result
-        (λ flat. HoldsPortion plan.now.portion bytes.now flat × Fits bytes.now) }
+        (λ flat. HoldsPortion Whole plan.now.portion bytes.now flat × Fits bytes.now) }
     ensures fault { IfErr result (IsNoDocument bytes.now) }
 {
     check_size(bytes)?;
-    match plan.read_document(alloc, Room::new(alloc), bytes) {
+    match plan.read_document(alloc, Room::new(alloc), bytes, Numbers::Whole) {
         Ok(flat) => Ok(flat),
         Err((_, fault)) => Err(FindFault::from(fault)),
     }
@@ -167,7 +169,7 @@ pub(crate) fn answer_from(
 ) -> Result<String, FindFault>
     requires asked { IsReadAs profile query.now asked.now }
     requires document { IfOk asked.now (λ c. IfOk read.now (λ flat.
-        IsReadToAnswer (query_of c.query) document.now (Document flat) × Fits document.now)) }
+        IsReadToAnswer Whole (query_of c.query) document.now (Document flat) × Fits document.now)) }
     requires fault { IfErr read.now (IsNoDocument document.now) }
     ensures answer { IfOk result (λ text.
         IsAnswer (output_within limit) profile form query.now document.now (string_bytes text)) }

@@ -11,6 +11,7 @@ ghost use Rattle.jsonpath.specs.declared.fault.FindFault.TheVariants.{DocumentTo
 
 use crate::numbers::document_part;
 use crate::outcome::{Answered, Outcome, Report, tell};
+use jp_decimal::Numbers;
 use jp_document::DocumentFault;
 use jp_held::read_flat;
 use jp_json::{Misreading, misreading_of};
@@ -111,7 +112,7 @@ fn told_misreading(
         ⊎ ((fault ≡ DocumentTooLarge) × IsTooLarge document.now)) }
 {
     check_size(document)?;
-    match read_flat(alloc, document) {
+    match read_flat(alloc, document, Numbers::Whole) {
         Ok(_) => Ok((String::new(alloc), Place::nowhere())),
         Err(fault) => Ok(told_of(alloc, document, part, &fault)?),
     }
@@ -127,7 +128,7 @@ fn told_of(
     requires { IsDocumentFault document.now fault.now }
     ensures { IfOk result (λ told. ExplainsDocument part document.now (string_bytes told.0) told.1) }
 {
-    let misreading = misreading_of(alloc, document, fault)?;
+    let misreading = misreading_of(alloc, document, Numbers::Whole, fault)?;
     let text = part_text(alloc, part, &misreading)?;
     Ok((text, Place::of(&misreading)))
 }

@@ -20,9 +20,9 @@ pub(crate) fn form(number: u32) -> Option<Form>
     ensures { result ≡ form_of number }
 {
     match number {
-        0 => Some(Form::Values),
-        1 => Some(Form::Paths),
-        2 => Some(Form::Both),
+        0 => Some(Form::VALUES),
+        1 => Some(Form::PATHS),
+        2 => Some(Form::BOTH),
         _ => None,
     }
 }
@@ -83,8 +83,8 @@ pub(crate) fn refusal_kind(number: u32) -> Option<RefusalKind>
     }
 }
 
-/// The fault of a document of this number, if there is one: of a number that is not whole with an
-/// empty path.
+/// The fault of a document of this number, if there is one: of a number that is not whole or out of
+/// range with an empty path.
 pub(crate) fn document_fault(alloc: Global, number: u32) -> Option<DocumentFault>
     ensures some { IfSome result (λ fault. document_fault_number fault ≡ number) }
     ensures none { result ≡ None → (fault : DocumentFault) → document_fault_number fault ≢ number }
@@ -94,6 +94,7 @@ pub(crate) fn document_fault(alloc: Global, number: u32) -> Option<DocumentFault
         2 => Some(DocumentFault::NotWhole(String::new(alloc))),
         3 => Some(DocumentFault::ListTooLong),
         4 => Some(DocumentFault::NoMemory),
+        5 => Some(DocumentFault::NumberRange(String::new(alloc))),
         _ => None,
     }
 }

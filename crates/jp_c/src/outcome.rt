@@ -12,7 +12,7 @@ use jp_select::Steps;
 use jsonpath::FindFault;
 
 /// The kind of a document that is too large, after those of `DocumentFault`.
-pub(crate) const TOO_LARGE: u32 = 5;
+pub(crate) const TOO_LARGE: u32 = 6;
 
 /// What a call answers.
 #[derive(Debug, PartialEq, Drop)]
@@ -46,7 +46,7 @@ pub struct Report {
     /// The byte of the query or of the document at which it is refused, else 0.
     pub place: usize,
     /// How many bytes the text has: the one that was asked for, or the normalized path of the first
-    /// number that is not whole; else 0.
+    /// number that is not whole or out of range; else 0.
     pub length: usize,
     /// How many steps the evaluation made, 0 where nothing was evaluated.
     pub steps: u64,
@@ -61,6 +61,8 @@ impl Outcome {
             Outcome::Text(text) => text.as_str(),
             Outcome::Fault(FindFault::Document(DocumentFault::NotWhole(path))) => path.as_str(),
             Outcome::Misread(DocumentFault::NotWhole(path), _) => path.as_str(),
+            Outcome::Fault(FindFault::Document(DocumentFault::NumberRange(path))) => path.as_str(),
+            Outcome::Misread(DocumentFault::NumberRange(path), _) => path.as_str(),
             Outcome::Usage | Outcome::Fault(_) | Outcome::Misread(_, _) => "",
         }
     }
@@ -74,6 +76,8 @@ impl Outcome {
             Outcome::Text(text) => text,
             Outcome::Fault(FindFault::Document(DocumentFault::NotWhole(path))) => path,
             Outcome::Misread(DocumentFault::NotWhole(path), _) => path,
+            Outcome::Fault(FindFault::Document(DocumentFault::NumberRange(path))) => path,
+            Outcome::Misread(DocumentFault::NumberRange(path), _) => path,
             Outcome::Usage | Outcome::Fault(_) | Outcome::Misread(_, _) => {
                 spare.clear();
                 spare

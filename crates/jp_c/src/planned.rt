@@ -1,11 +1,13 @@
 //! A query with its plan.
 
 ghost use Rattle.std.specs.Prelude.{◌≡◌, IfErr, IfOk};
+ghost use Rattle.jp_decimal.specs.declared.numbers.Numbers.TheVariants.{Whole};
 ghost use Rattle.jp_document.specs.Document.{IsDocumentFault};
 ghost use Rattle.jp_evaluate.specs.Plan.{IsReadToAnswer};
 ghost use Rattle.jp_tree.specs.Views.{query_of};
 
 use jp_check::Checked;
+use jp_decimal::Numbers;
 use jp_document::DocumentFault;
 use jp_evaluate::Plan;
 use jp_flat::Room;
@@ -60,10 +62,10 @@ impl Planned {
         room: Room,
         bytes: &'t [u8],
     ) -> Result<Excerpt<'p, 't>, (Room, DocumentFault)>
-        ensures ok { IfOk result (IsReadToAnswer (query_of self.now.query) bytes.now) }
+        ensures ok { IfOk result (IsReadToAnswer Whole (query_of self.now.query) bytes.now) }
         ensures fault { IfErr result (λ e. IsDocumentFault bytes.now e.1) }
     {
-        let read = self.plan.read_into(alloc, room, bytes)?;
+        let read = self.plan.read_into(alloc, room, bytes, Numbers::Whole)?;
         Ok(read)
     }
 }

@@ -6,6 +6,7 @@ ghost use Rattle.jp_c.specs.Misread.{IsMisreadAt};
 ghost use Rattle.jp_c.specs.Private.Placing.{HasOfBytes, IsOfBytes, IsPlaced, IsTold};
 
 use crate::outcome::{Answered, Outcome};
+use jp_decimal::Numbers;
 use jp_document::DocumentFault;
 use jp_json::misreading_of;
 use jsonpath::FindFault;
@@ -16,7 +17,7 @@ fn misread_at(alloc: Global, document: &[u8], fault: &DocumentFault) -> Result<u
     requires { IsDocumentFault document.now fault.now }
     ensures { IfOk result (IsMisreadAt document.now) }
 {
-    let misreading = misreading_of(alloc, document, fault)?;
+    let misreading = misreading_of(alloc, document, Numbers::Whole, fault)?;
     Ok(misreading.offset)
 }
 

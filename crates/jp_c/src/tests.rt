@@ -227,14 +227,15 @@ fn explains_what_is_no_document(rt: HostRuntime) -> Result<(), Fail> {
 
 #[test]
 fn names_kinds(rt: HostRuntime) {
-    let rows: [(u32, u32, u32, &[u8]); 9] = [
+    let rows: [(u32, u32, u32, &[u8]); 10] = [
         (1, 1, 0, b"Syntax"),
         (1, 9, 0, b"IllTyped"),
         (3, 1, 0, b"NotJson"),
-        (3, 5, 0, b"DocumentTooLarge"),
+        (3, 5, 0, b"NumberRange"),
+        (3, 6, 0, b"DocumentTooLarge"),
         (1, 0, 2, b""),
         (1, 12, 2, b""),
-        (3, 6, 2, b""),
+        (3, 7, 2, b""),
         (0, 1, 2, b""),
         (4, 1, 2, b""),
     ];

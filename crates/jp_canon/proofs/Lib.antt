@@ -1,5 +1,6 @@
 -- The files of lemmas. `pub` are those that proofs of other crates may name.
 pub mod Bracketed
+pub mod Decimals
 pub mod Spells
 pub mod Forms
 pub mod Names

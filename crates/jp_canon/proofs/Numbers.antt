@@ -1,14 +1,13 @@
 -- Numbers in decimal spell themselves.
 use Rattle.std.proofs.Common.{◌≡◌, ℕ, zero, suc, ◌+◌, ◌-◌, ◌*◌, ◌^◌, ◌<◌, ◌≤◌, ltb}
-use Rattle.std.proofs.Common.{leb, Bool, true, false, [], ◌∷◌, pos, negsuc, codes}
-use Rattle.std.proofs.Common.{refl, sym, ap, subst, ◌∙◌, inl, inr, arith, append-nil}
-use Rattle.std.specs.Fmt.{decimal}
-use Rattle.std.specs.Fmt.{digits as fmt_digits}
-use Rattle.std.specs.List.{list_all}
-use Rattle.std.proofs.lemmas.Bool.{and_parts, cases_Bool, leb-true, ltb-true}
+use Rattle.std.proofs.Common.{leb, true, false, None, [], ◌∷◌, ◌++◌, pos, negsuc, codes}
+use Rattle.std.proofs.Common.{refl, sym, ap, ap₂, subst, ◌∙◌, inl, inr, arith, append-nil}
+use Rattle.std.specs.Fmt.{decimal, signed_decimal}
+use Rattle.std.specs.Prelude.{ℤ}
+use Rattle.std.proofs.lemmas.Bool.{cases_Bool, leb-true, ltb-true}
 use Rattle.std.proofs.lemmas.Bool.Decides.{nat_tests}
 use Rattle.jp_reading.specs.Characters as char
-use Rattle.jp_reading.specs.Forms.{AllPassing, Form}
+use Rattle.jp_reading.specs.Forms.{Form}
 use Rattle.jp_reading.specs.Numbers.{is_digit, value_from}
 use Rattle.jp_reading.specs.Texts.{Spans, Text}
 use Rattle.jp_reading.proofs.Texts.Digits.{value_from-least}
@@ -20,9 +19,11 @@ use Rattle.jp_tree.specs.declared.tree.Numeral.TheVariants.{Beyond, Fraction, Wh
 use Rattle.jp_query.specs.Ints.{Int, negative_int}
 use Rattle.jp_reading.specs.Numbers.{is_leading_digit}
 use Rattle.jp_query.specs.Ints.{negative_of, positive_int, whole_of, zero_int}
-use Rattle.jp_query.specs.Literals.{Decimals, DigitSequence, Exponent, Mantissa, Number, Optional}
-use Rattle.jp_query.specs.Literals.{decimals, left_out, minus_zero, number, whole, written}
+use Rattle.jp_query.specs.Literals.{Decimals, Exponent, Mantissa, Number, Optional, integer}
+use Rattle.jp_query.specs.Literals.{left_out, minus_zero, number, number_in, whole, written}
+use Rattle.jp_query.proofs.Readers.Integers.{signed-int}
 use Rattle.jp_canon.specs.Canon.{numeral_text}
+use Rattle.jp_canon.proofs.Decimals.{all-passing, has-decimal_in, has-fraction_in}
 use Rattle.jp_canon.proofs.Forms.{Has, both, has-as, has-equal_tree, has-each_passing, has-one}
 use Rattle.jp_canon.proofs.Forms.{has-same, has-word}
 
@@ -57,23 +58,13 @@ has-decimal n fits = has-same (sym (decimal-index_text n fits))
 
 -- ---- beyond the range
 
-beyond-digits : decimal (2 ^ 64) ≡ char.digit_one ∷ codes "8446744073709551616"
-unfolding fmt_digits
-beyond-digits = refl
-
-all-passing : (ok : ℕ → Bool) (cs : Text) → list_all ok cs ≡ true → AllPassing ok cs
-all-passing ok [] all = tt
-all-passing ok (c ∷ cs) all = let parts = and_parts (ok c) (list_all ok cs) all in
-    (parts.0, all-passing ok cs parts.1)
-
-has-beyond : Has (Int Beyond) (decimal (2 ^ 64))
+has-beyond : Has (Int (Beyond None)) (numeral_text (Beyond None))
 unfolding is_digit
 has-beyond =
-    let more : Text = codes "8446744073709551616" in
-    has-same (sym beyond-digits)
-    (has-as (λ s o. positive_int char.digit_one more refl)
+    let more : Text = codes "11111111111111111111111111111111111111" in
+    has-as (λ s o. positive_int char.digit_one more refl)
     (both (has-one is_leading_digit char.digit_one refl)
-    (has-each_passing is_digit more (all-passing is_digit more refl))))
+    (has-each_passing is_digit more (all-passing is_digit more refl)))
 
 -- ---- every int
 
@@ -84,7 +75,7 @@ has-whole_of n =
           let is : whole_of n ≡ Whole (pos n) = rw fits refl in
           has-equal_tree Int numeral_text is
           (subst (λ i. Has (Int i) (decimal n)) is (has-decimal n (ltb-true n (2 ^ 64) fits)))
-      | inr large ↦ has-equal_tree Int numeral_text {y = Beyond} (rw large refl) has-beyond
+      | inr large ↦ has-equal_tree Int numeral_text {y = Beyond None} (rw large refl) has-beyond
     ]
 
 has-negative_of : (n : ℕ) → 0 < n → Has (Int (negative_of n)) (numeral_text (negative_of n))
@@ -100,7 +91,7 @@ has-negative_of (suc m) some =
           (has-same (ap (λ t. char.minus ∷ t) (sym text))
           (has-negative (suc m) (index_text (suc m)) (begun (suc m))
           (value_from-index_text (suc m)) some)))
-      | inr large ↦ has-equal_tree Int numeral_text {y = Beyond} (rw large refl) has-beyond
+      | inr large ↦ has-equal_tree Int numeral_text {y = Beyond None} (rw large refl) has-beyond
     ]
 
 value-some : (c : ℕ) (more : Text) → is_leading_digit c ≡ true → 0 < value_from 0 (c ∷ more)
@@ -125,34 +116,41 @@ mantissa i s o t (whole h) = has-as (λ r p. whole) (int i s o t h)
 mantissa i s o t (minus_zero is h) = has-equal_tree Mantissa numeral_text is
     (has-as (λ r p. whole) (has-whole_of 0))
 
+left-out : {P : Form} {s : Spans} {o : ℕ} {t : Text} → Optional P false s o t → t ≡ []
+left-out (left_out e h) = h.is
+left-out (written e h) = absurd (cc)
+
 has-left_out : (P : Form) → Has (Optional P false) []
 has-left_out P = has-as (λ s o. left_out refl) (has-word [])
 
-has-plain : (i : Numeral) → Has (Mantissa i) (numeral_text i) → Has (Number i) (numeral_text i)
-has-plain i h =
-    has-same (append-nil (numeral_text i))
-    (has-as (λ s o. number i false false refl)
+-- a whole number of 64 bits
+has-plain : (z : ℤ) → Has (Mantissa (Whole z)) (signed_decimal z)
+    → Has (Number (Whole z)) (signed_decimal z)
+has-plain z h =
+    has-same (append-nil (signed_decimal z))
+    (has-as (λ s o. number (Whole z) false false refl)
     (both h (both (has-left_out Decimals) (has-left_out Exponent))))
 
-has-fraction : Has (Number Fraction) (codes "0.5")
-unfolding is_digit
-has-fraction =
-    let digits : Has (DigitSequence char.digit_five []) (char.digit_five ∷ []) =
-    both (has-one is_digit char.digit_five refl) (has-word []) in
-    let zero_text : Has (Int (whole_of 0)) (char.digit_zero ∷ []) = has-as (λ s o. zero_int refl)
-    (has-word (char.digit_zero ∷ [])) in
-    let half : Has Decimals (char.dot ∷ char.digit_five ∷ []) = has-as
-    (λ s o. decimals char.digit_five [])
-    (both (has-word (char.dot ∷ [])) digits) in
-    has-as (λ s o. number (whole_of 0) true false refl)
-    (both (has-as (λ s o. whole) zero_text)
-    (both (has-as (λ s o. written refl) half) (has-left_out Exponent)))
+-- what a text without a fraction and an exponent spells
+without-point : (i j : Numeral) (s : Spans) (o : ℕ) (t : Text) → i ≡ integer j (number_in t)
+    → Mantissa j s o t
+    → Has (Number i) (numeral_text i)
+without-point i (Whole z) s o t is h =
+    has-equal_tree Number numeral_text is (has-plain z (mantissa (Whole z) s o t h))
+without-point i (Beyond m) s o t is h =
+    has-equal_tree Number numeral_text is (has-decimal_in t (signed-int (Beyond m) s o t h))
+without-point i (Fraction n) s o t is h =
+    has-equal_tree Number numeral_text is (has-decimal_in t (signed-int (Fraction n) s o t h))
 
 pub number-text : (i : Numeral) (s : Spans) (o : ℕ) (t : Text) → Number i s o t
     → Has (Number i) (numeral_text i)
 number-text i s o t (number j false false is h) =
-    has-equal_tree Number numeral_text is
-    (has-plain j (mantissa j h.first_spans o h.first h.one))
+    let none : t ≡ h.first =
+    h.is ∙ ap (λ w. h.first ++ w) (h.two.is ∙ ap₂ (λ v w. v ++ w) (left-out h.two.one) (left-out h.two.two))
+    ∙ append-nil h.first in
+    without-point i j h.first_spans o t is
+    (subst (Mantissa j h.first_spans o) (sym none) h.one)
 number-text i s o t (number j true has_exponent is h) =
-    has-equal_tree Number numeral_text is has-fraction
-number-text i s o t (number j false true is h) = has-equal_tree Number numeral_text is has-fraction
+    has-equal_tree Number numeral_text is (has-fraction_in t)
+number-text i s o t (number j false true is h) =
+    has-equal_tree Number numeral_text is (has-fraction_in t)

@@ -1,9 +1,9 @@
 -- The canonical text of a query: of all its spellings the one without blank space and without a
 -- choice (RFC 9535 sections 2.1 to 2.5). It is a function of the tree, and knows no text that was
 -- read.
-use Rattle.std.specs.Prelude.{ℕ, ◌^◌, ◌==◌, pos, Bool, false, if◌then◌else◌}
+use Rattle.std.specs.Prelude.{ℕ, ◌==◌, pos, Bool, false, if◌then◌else◌}
 use Rattle.std.specs.Prelude.{List, [], ◌∷◌, ◌++◌, Option, Some, None, codes}
-use Rattle.std.specs.Fmt.{decimal, signed_decimal}
+use Rattle.std.specs.Fmt.{signed_decimal}
 use Rattle.std.specs.List.{join_by}
 use Rattle.jp_reading.specs.Texts.{Text}
 use Rattle.jp_document.specs.Path.{quoted}
@@ -20,6 +20,7 @@ use Rattle.jp_tree.specs.Tree.{CallTree, call, ArgumentTree, literal_argument, q
 use Rattle.jp_tree.specs.Tree.{call_argument, logical_argument, ArgumentTrees, no_arguments}
 use Rattle.jp_tree.specs.Tree.{argument_then, LiteralTree, number, text, true_literal}
 use Rattle.jp_tree.specs.Tree.{false_literal, null_literal}
+use Rattle.jp_canon.specs.NumeralText.{fraction_text, integer_text}
 use Rattle.jp_canon.specs.Precedence.{or_precedence, and_precedence}
 use Rattle.jp_canon.specs.Precedence.{not_precedence, is_grouped, is_test, grouped}
 
@@ -27,12 +28,14 @@ use Rattle.jp_canon.specs.Precedence.{not_precedence, is_grouped, is_test, group
 abbrev pub separated : Text → List Text → Text
 separated separator texts = join_by (λ t. t) separator texts
 
--- a whole number in decimal; one that no accepted query has is written as another of its kind,
--- outside the range or with a fraction
+-- a number as it was written, with a fraction or an exponent or without; one that can't be held, which
+-- no accepted query has, is written as another of its kind
 abbrev pub numeral_text : Numeral → Text
 numeral_text (Whole z) = signed_decimal z
-numeral_text Beyond = decimal (2 ^ 64)
-numeral_text Fraction = codes "0.5"
+numeral_text (Beyond (Some d)) = integer_text d
+numeral_text (Beyond None) = codes "111111111111111111111111111111111111111"
+numeral_text (Fraction (Some n)) = fraction_text n
+numeral_text (Fraction None) = codes "1e-1000001"
 
 -- whether the number is 1, the step that a slice has without one (section 2.3.4.1)
 abbrev pub is_one : Numeral → Bool

@@ -4,7 +4,6 @@ use Rattle.jp_reading.specs.Texts.{Text, Spans}
 use Rattle.jp_query.specs.Grammar.{Spells}
 use Rattle.jp_tree.specs.Tree.{QueryTree}
 use Rattle.jp_check.specs.declared.profile.Profile.{Profile}
-use Rattle.jp_check.specs.declared.profile.Profile.TheVariants.{Extended}
 use Rattle.jp_check.specs.Accepted.{IsAccepted, IsAcceptedAs}
 use Rattle.jp_canon.specs.Canon.{canon_of}
 
@@ -21,8 +20,8 @@ CanonIsAccepted =
     (profile : Profile) (q : QueryTree) → IsAccepted profile q
     → IsAcceptedAs profile (canon_of q) q
 
--- trees that are accepted in `Extended` have one canonical text exactly if they are equal
+-- trees that are accepted, each in some profile, have one canonical text exactly if they are equal
 abbrev pub CanonTellsApart : Type 0
 CanonTellsApart =
-    (q u : QueryTree) → IsAccepted Extended q → IsAccepted Extended u
+    (profile other : Profile) (q u : QueryTree) → IsAccepted profile q → IsAccepted other u
     → (canon_of q ≡ canon_of u) ↔ (q ≡ u)

@@ -1,4 +1,5 @@
 -- The files of definitions.
 pub mod Canon
 pub mod Laws
+pub mod NumeralText
 pub mod Precedence

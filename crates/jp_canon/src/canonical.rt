@@ -11,7 +11,7 @@ use jp_check::Checked;
 use std::alloc::{AllocError, Global};
 
 /// The canonical text of a query: of all its spellings the one without blank space and without a
-/// choice (RFC 9535 sections 2.1 to 2.5). It is the same in either profile. It goes over the tree
+/// choice (RFC 9535 sections 2.1 to 2.5). It is the same in each profile. It goes over the tree
 /// once. The only error is that memory ran out.
 pub fn canon(alloc: Global, query: &Checked) -> Result<String, AllocError>
     ensures { IfOk result (λ s. chars (string_bytes s) ≡ canon_of (query_of query.now.query)) }

@@ -12,8 +12,7 @@ pub fn canon_spells()
     ensures accepted { CanonIsAccepted }
 {}
 
-/// Trees that are accepted in `Extended`, as are all that are in `Standard`, have one canonical
-/// text exactly if they are equal.
+/// Trees that are accepted, each in some profile, have one canonical text exactly if they are equal.
 pub fn canon_tells_apart()
     ensures { CanonTellsApart }
 {

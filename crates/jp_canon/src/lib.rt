@@ -7,9 +7,9 @@
 //!
 //! The contract for the crates above: `canon` gives the text that `specs/Canon.antt` gives the
 //! query's tree, in whichever profile it was checked. Read in that profile, the text is accepted as
-//! the same tree, and two trees that are accepted in `Extended`, as are all that are in `Standard`,
-//! have one canonical text exactly if they are equal (`laws`). `Writer` is the text that it is written
-//! to, piece by piece, for whoever writes other texts so.
+//! the same tree, and two trees that are accepted, each in some profile, have one canonical text
+//! exactly if they are equal (`laws`). `Writer` is the text that it is written to, piece by piece, for
+//! whoever writes other texts so.
 #![tactic(auto)]
 
 mod calls;

@@ -5,6 +5,7 @@ ghost use Rattle.std.specs.Char.{is_ascii};
 ghost use Rattle.std.specs.Fmt.{signed_decimal};
 ghost use Rattle.std.specs.List.{list_all};
 ghost use Rattle.std.specs.Str.{chars};
+ghost use Rattle.jp_decimal.specs.NumberText.{zeros};
 ghost use Rattle.jp_document.specs.Path.{quoted};
 
 use itoa::Buffer;
@@ -15,6 +16,7 @@ use std::marker::Model;
 /// A text as far as it is written. Where memory runs out, a part of the next piece may stand there.
 #[derive(Drop)]
 pub struct Writer {
+    alloc: Global,
     text: String,
 }
 
@@ -33,6 +35,7 @@ impl Writer {
         ensures { result ≡ [] }
     {
         Writer {
+            alloc,
             text: String::new(alloc),
         }
     }
@@ -79,6 +82,21 @@ impl Writer {
         ensures { OnOk result (self.new ≡ self.old ++ quoted (chars text.now)) }
     {
         push_quote(&mut self.text, text)
+    }
+
+    /// The allocator of the text.
+    pub(crate) fn alloc(&self) -> Global {
+        self.alloc
+    }
+
+    /// Writes so many zeros.
+    pub(crate) fn zeros(&mut self, count: u32) -> Result<(), AllocError>
+        ensures { OnOk result (self.new ≡ self.old ++ zeros count) }
+    {
+        'zeros: for _ in 0..count {
+            self.character('0')?;
+        }
+        Ok(())
     }
 
     /// Writes a whole number in decimal.

@@ -1,13 +1,14 @@
 -- A profile has the functions of its names.
 use Rattle.std.proofs.Common.{◌≡◌, cond, Bool, true, false, not, ◌&&◌, if◌then◌else◌, ℕ, List, []}
-use Rattle.std.proofs.Common.{◌∷◌, ◌++◌, Some, None, refl, ap}
+use Rattle.std.proofs.Common.{◌∷◌, ◌++◌, Option, Some, None, refl, ap, ◌∙◌}
 use Rattle.std.specs.Map.{lookup}
 use Rattle.std.specs.Str.{bytes_eq}
 use Rattle.std.proofs.lemmas.Bool.{and_parts}
 use Rattle.jp_tree.specs.declared.function.Function.{Function}
 use Rattle.jp_tree.specs.Functions.{added_functions, function_of_name, standard_functions}
 use Rattle.jp_check.specs.declared.profile.Profile.{Profile}
-use Rattle.jp_check.specs.declared.profile.Profile.TheVariants.{Standard, Extended}
+use Rattle.jp_check.specs.declared.profile.Profile.TheVariants.{Standard, Extended, Decimal}
+use Rattle.jp_check.specs.declared.profile.Profile.TheVariants.{ExtendedDecimal}
 use Rattle.jp_check.specs.Functions.{function_named}
 use Rattle.jp_check.specs.Private.Calls.{function_within, is_added}
 
@@ -55,8 +56,19 @@ within is (e ∷ es) more none are =
     decided true own rest = own
     decided false own rest = rest
 
+-- a profile over decimals has the functions of the one over whole numbers
+decimal-within : (function : Option Function)
+    → function_within Decimal function ≡ function_within Standard function
+decimal-within None = refl
+decimal-within (Some function) = refl
+
+standard-within : (cs : List ℕ)
+    → function_within Standard (function_of_name cs) ≡ function_named Standard cs
+standard-within cs = within (bytes_eq cs) standard_functions added_functions refl refl
+
 pub function_within_is : (profile : Profile) (cs : List ℕ)
     → function_within profile (function_of_name cs) ≡ function_named profile cs
-function_within_is Standard cs =
-    within (bytes_eq cs) standard_functions added_functions refl refl
+function_within_is Standard cs = standard-within cs
 function_within_is Extended cs = refl
+function_within_is Decimal cs = decimal-within (function_of_name cs) ∙ standard-within cs
+function_within_is ExtendedDecimal cs = refl

@@ -7,6 +7,9 @@ use Rattle.jp_query.specs.declared.refusal.RefusalKind.TheVariants.{NotWhole, Nu
 use Rattle.jp_query.specs.declared.refusal.RefusalKind.TheVariants.{IndexRange, UnknownFunction}
 use Rattle.jp_query.specs.declared.refusal.RefusalKind.TheVariants.{ArgumentCount, NotSingular}
 use Rattle.jp_query.specs.declared.refusal.RefusalKind.TheVariants.{IllTyped}
+use Rattle.jp_decimal.specs.declared.number.Decimal.{Decimal as HeldDecimal}
+use Rattle.jp_decimal.specs.declared.number.Number.TheVariants.{Decimal as AsDecimal}
+use Rattle.jp_tree.specs.declared.tree.Numeral.{Numeral}
 use Rattle.jp_tree.specs.declared.tree.Numeral.TheVariants.{Whole, Beyond, Fraction}
 use Rattle.jp_tree.specs.declared.tree.Op.TheVariants.{Equal}
 use Rattle.jp_tree.specs.Tree.{SelectorTree, name, wildcard, index, filter, segment, QueryTree}
@@ -15,7 +18,8 @@ use Rattle.jp_tree.specs.Tree.{text, CallTree, call, call_test, call_value, Argu
 use Rattle.jp_tree.specs.Tree.{literal_argument, query_argument, call_argument, arguments}
 use Rattle.jp_tree.specs.Tree.{selectors, segments, exprs}
 use Rattle.jp_check.specs.declared.functions.DataType.TheVariants.{Nodes, Value}
-use Rattle.jp_check.specs.declared.profile.Profile.TheVariants.{Standard, Extended}
+use Rattle.jp_check.specs.declared.profile.Profile.TheVariants.{Standard, Extended, Decimal}
+use Rattle.jp_check.specs.declared.profile.Profile.TheVariants.{ExtendedDecimal}
 use Rattle.jp_check.specs.Faults.{HasFault}
 use Rattle.jp_check.specs.First.{IsComponentFault, IsNoLater, IsFirstFault}
 use Rattle.jp_check.specs.Functions.{signature_named}
@@ -38,7 +42,7 @@ row-least = refl
 row-below : is_in_index_range (Whole (negsuc 9007199254740991)) ≡ false
 row-below = refl
 
-row-beyond : HasFault Standard (int Beyond as_index) IndexRange
+row-beyond : HasFault Standard (int (Beyond None) as_index) IndexRange
 row-beyond = refl
 
 row-zero : HasFault Standard (int (Whole (pos 0)) as_index) IndexRange → ⊥
@@ -75,14 +79,45 @@ row-fault = record {
 
 -- ---- literals
 
-row-fraction : HasFault Standard (constant (number Fraction) as_side) NotWhole
-row-fraction = refl
+-- 0.1, and 18446744073709551616
+abbrev a_tenth : HeldDecimal
+a_tenth = record { coefficient = pos 1; exponent = negsuc 0 }
 
-row-fraction-alone : HasFault Standard (constant (number Fraction) as_side) NumberRange → ⊥
-row-fraction-alone h = cc
+abbrev tenth : Numeral
+tenth = Fraction (Some (AsDecimal a_tenth))
 
-row-beyond-literal : HasFault Standard (constant (number Beyond) as_side) NumberRange
-row-beyond-literal = refl
+abbrev next_whole : HeldDecimal
+next_whole = record { coefficient = pos 18446744073709551616; exponent = pos 0 }
+
+abbrev beyond : Numeral
+beyond = Beyond (Some next_whole)
+
+row-fraction : HasFault Standard (constant (number tenth) as_side) NotWhole
+row-fraction = (Some (AsDecimal a_tenth), refl)
+
+row-fraction-alone : HasFault Standard (constant (number tenth) as_side) NumberRange → ⊥
+row-fraction-alone h = cc (h.1)
+
+row-beyond-literal : HasFault Standard (constant (number beyond) as_side) NumberRange
+row-beyond-literal = (Some next_whole, refl)
+
+-- where numbers are decimals, both may be literals, and what can't be held may not
+row-decimal-fraction : HasFault Decimal (constant (number tenth) as_side) NotWhole → ⊥
+row-decimal-fraction h = h
+
+row-decimal-held : HasFault Decimal (constant (number tenth) as_side) NumberRange → ⊥
+row-decimal-held (inl h) = cc
+row-decimal-held (inr h) = cc
+
+row-decimal-beyond : HasFault Decimal (constant (number beyond) as_side) NumberRange → ⊥
+row-decimal-beyond (inl h) = cc
+row-decimal-beyond (inr h) = cc
+
+row-decimal-digits : HasFault Decimal (constant (number (Beyond None)) as_side) NumberRange
+row-decimal-digits = inr refl
+
+row-decimal-exponent : HasFault Decimal (constant (number (Fraction None)) as_side) NumberRange
+row-decimal-exponent = inl refl
 
 -- 18446744073709551615 may be a literal, and is no index
 row-greatest-literal : HasFault Standard
@@ -206,7 +241,7 @@ row-query-first : IsFirstFault Standard
     (components_of
     (filter_query
     (comparison (node_value (at_current (wildcard ∷ []))) Equal
-    (literal (number Fraction)))))
+    (literal (number tenth)))))
     (Some (record { start = 3; end = 6 }) ∷ Some (record { start = 8; end = 11 }) ∷ [])
     (record { kind = NotSingular; place = 3 })
 unfolding at_current filter_query
@@ -215,7 +250,7 @@ row-query-first = found-fault Standard _ _ (record { kind = NotSingular; place =
 -- `$[?@.a==1.0&&@.*==2]`: of two faults the literal's stands first, at 8
 row-literal-first : IsFirstFault Standard
     (components_of (filter_query (all_of (exprs (
-    comparison (node_value (at_current (name (codes "a") ∷ []))) Equal (literal (number Fraction))
+    comparison (node_value (at_current (name (codes "a") ∷ []))) Equal (literal (number tenth))
     ∷ comparison (node_value (at_current (wildcard ∷ []))) Equal (literal (number (Whole (pos 2))))
     ∷ [])))))
     (Some (record { start = 3; end = 6 }) ∷ Some (record { start = 8; end = 11 }) ∷ Some
@@ -227,7 +262,7 @@ row-literal-first = found-fault Standard _ _ (record { kind = NotWhole; place = 
 -- `$[?foo(1.5)]`: of two faults the call's stands first, at 3
 row-call-first : IsFirstFault Standard
     (components_of
-    (filter_query (call_test (calling (codes "foo") (literal_argument (number Fraction) ∷ [])))))
+    (filter_query (call_test (calling (codes "foo") (literal_argument (number tenth) ∷ [])))))
     (Some (record { start = 3; end = 11 }) ∷ Some (record { start = 7; end = 10 }) ∷ [])
     (record { kind = UnknownFunction; place = 3 })
 unfolding calling filter_query
@@ -238,6 +273,10 @@ row-call-first = found-fault Standard _ _ (record { kind = UnknownFunction; plac
 row-distinct : signature_named Extended (codes "distinct")
     ≡ Some (record { parameters = Nodes ∷ []; result = Nodes })
 row-distinct = refl
+
+row-distinct-decimal : signature_named ExtendedDecimal (codes "distinct")
+    ≡ signature_named Extended (codes "distinct")
+row-distinct-decimal = refl
 
 row-distinct-standard : signature_named Standard (codes "distinct") ≡ None
 row-distinct-standard = refl

@@ -10,7 +10,8 @@ use Rattle.jp_tree.specs.Functions.{all_functions, standard_functions}
 use Rattle.jp_check.specs.declared.functions.DataType.{DataType}
 use Rattle.jp_check.specs.declared.functions.DataType.TheVariants.{Value, Logical, Nodes}
 use Rattle.jp_check.specs.declared.profile.Profile.{Profile}
-use Rattle.jp_check.specs.declared.profile.Profile.TheVariants.{Standard, Extended}
+use Rattle.jp_check.specs.declared.profile.Profile.TheVariants.{Standard, Extended, Decimal}
+use Rattle.jp_check.specs.declared.profile.Profile.TheVariants.{ExtendedDecimal}
 
 -- the types of a function's parameters, in order, and of its result (section 2.4.1)
 pub record Signature : Type 0 where
@@ -18,10 +19,12 @@ pub record Signature : Type 0 where
   pub result : DataType
 
 -- the functions of a profile and their names: those of the standard (sections 2.4.4 to 2.4.8), and in
--- `Extended` also `distinct`, as section 2.4 provides for
+-- `Extended` and `ExtendedDecimal` also `distinct`, as section 2.4 provides for
 abbrev pub functions : Profile → List (List ℕ × Function)
 functions Standard = standard_functions
 functions Extended = all_functions
+functions Decimal = standard_functions
+functions ExtendedDecimal = all_functions
 
 -- the types of each (sections 2.4.4 to 2.4.8), and of `distinct`
 abbrev pub signature : Function → Signature

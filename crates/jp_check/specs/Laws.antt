@@ -8,7 +8,8 @@ use Rattle.jp_query.specs.Components.{QueryComponent, components_of}
 use Rattle.jp_query.specs.ComponentSpans.{IsSpanOf}
 use Rattle.jp_tree.specs.Tree.{QueryTree}
 use Rattle.jp_check.specs.declared.profile.Profile.{Profile}
-use Rattle.jp_check.specs.declared.profile.Profile.TheVariants.{Standard, Extended}
+use Rattle.jp_check.specs.declared.profile.Profile.TheVariants.{Standard, Extended, Decimal}
+use Rattle.jp_check.specs.declared.profile.Profile.TheVariants.{ExtendedDecimal}
 use Rattle.jp_check.specs.Accepted.{IsAcceptedAs}
 use Rattle.jp_check.specs.Faults.{HasFault}
 use Rattle.jp_check.specs.Refused.{IsFaulty, IsRefusedForItself}
@@ -45,7 +46,20 @@ FaultAtItsComponent profile =
     (text : Text) (fault : Refusal) (h : IsFaulty profile text fault)
     → IsFaultInText profile text h.tree fault
 
--- what is accepted in `Standard` is accepted in `Extended` as the same tree
+-- what is accepted in the one profile is accepted in the other as the same tree
+abbrev pub AcceptsMore : Profile → Profile → Type 0
+AcceptsMore profile other =
+    (text : Text) (q : QueryTree) → IsAcceptedAs profile text q → IsAcceptedAs other text q
+
+-- what is accepted in `Standard` is accepted in `Extended`
 abbrev pub StandardIsExtended : Type 0
-StandardIsExtended =
-    (text : Text) (q : QueryTree) → IsAcceptedAs Standard text q → IsAcceptedAs Extended text q
+StandardIsExtended = AcceptsMore Standard Extended
+
+-- the same over decimals
+abbrev pub DecimalIsExtended : Type 0
+DecimalIsExtended = AcceptsMore Decimal ExtendedDecimal
+
+-- what is accepted over whole numbers is accepted over decimals, with the same functions
+pub record WholeIsDecimal : Type 0 where
+  pub standard : AcceptsMore Standard Decimal
+  pub extended : AcceptsMore Extended ExtendedDecimal

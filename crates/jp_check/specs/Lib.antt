@@ -5,6 +5,7 @@ pub mod Faults
 pub mod First
 pub mod Functions
 pub mod Laws
+pub mod Numbers
 pub mod Private
 pub mod Ranges
 pub mod Refused

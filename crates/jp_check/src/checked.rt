@@ -68,9 +68,10 @@ impl Checked {
 /// 2.4.3).
 ///
 /// The refusal is its first fault: the one with the least place, and of several there the one with
-/// the least number. A literal with a fraction or an exponent is `NotWhole`, a whole one outside
-/// -(2^63) to (2^64)-1 is `NumberRange`, at the literal; an index or a part of a slice outside
-/// -(2^53)+1 to (2^53)-1 is `IndexRange`, at that number. A call is `UnknownFunction` where no
+/// the least number. Where the profile's numbers are whole, a literal with a fraction or an exponent
+/// is `NotWhole`, and a whole one outside -(2^63) to (2^64)-1 is `NumberRange`; where they are decimals,
+/// a literal that can't be held is `NumberRange`: both at the literal. An index or a part of a slice
+/// outside -(2^53)+1 to (2^53)-1 is `IndexRange`, at that number. A call is `UnknownFunction` where no
 /// function of the profile has its name, and `ArgumentCount` where it has not as many arguments as
 /// the function has parameters. Where a value is wanted, as a side of a comparison or as an
 /// argument, a query that is not singular is `NotSingular`. Else a call or an argument that doesn't

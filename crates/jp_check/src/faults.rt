@@ -3,12 +3,14 @@
 ghost use Rattle.std.specs.Prelude.{◌≡◌};
 ghost use Rattle.jp_tree.specs.Views.{call_of, literal_of, query_of};
 ghost use Rattle.jp_check.specs.Private.Inspection.{fault_of_call, fault_of_int, fault_of_literal};
-ghost use Rattle.jp_check.specs.Private.Inspection.{fault_of_logical, fault_of_query, ill_typed};
+ghost use Rattle.jp_check.specs.Private.Inspection.{fault_of_logical, fault_of_number};
+ghost use Rattle.jp_check.specs.Private.Inspection.{fault_of_query, ill_typed};
 
 use crate::functions::{DataType, signature_named};
 use crate::profile::Profile;
 use crate::ranges::is_in_index_range;
 use crate::singular::is_singular;
+use jp_decimal::Numbers;
 use jp_query::RefusalKind;
 use jp_tree::{Call, Literal, Numeral, Query};
 
@@ -35,18 +37,37 @@ fn ill_typed(own: DataType, wanted: Option<DataType>) -> Option<RefusalKind>
     }
 }
 
-/// The fault of a literal, if it is a number with a fraction or an exponent, or a whole one outside
-/// -(2^63) to (2^64)-1, or if no value is wanted there.
-pub(crate) fn fault_of_literal(literal: &Literal, wanted: Option<DataType>) -> Option<RefusalKind>
-    ensures { result ≡ fault_of_literal (literal_of literal.now) wanted }
+/// The fault of a literal, if it is none of these numbers, or if no value is wanted there.
+pub(crate) fn fault_of_literal(
+    literal: &Literal,
+    wanted: Option<DataType>,
+    numbers: Numbers,
+) -> Option<RefusalKind>
+    ensures { result ≡ fault_of_literal numbers (literal_of literal.now) wanted }
 {
     match literal {
-        Literal::Number(Numeral::Fraction) => Some(RefusalKind::NotWhole),
-        Literal::Number(Numeral::Beyond) => Some(RefusalKind::NumberRange),
-        Literal::Number(Numeral::Whole(_)) => ill_typed(DataType::Value, wanted),
+        Literal::Number(number) => match fault_of_number(*number, numbers) {
+            Some(kind) => Some(kind),
+            None => ill_typed(DataType::Value, wanted),
+        },
         Literal::Text(_) | Literal::True | Literal::False | Literal::Null => {
             ill_typed(DataType::Value, wanted)
         }
+    }
+}
+
+/// The fault of a number, if it is none of these: of whole ones, that it has a fraction or an exponent,
+/// or is outside -(2^63) to (2^64)-1; of decimals, that it can't be held.
+fn fault_of_number(number: Numeral, numbers: Numbers) -> Option<RefusalKind>
+    ensures { result ≡ fault_of_number numbers number }
+{
+    match (numbers, number) {
+        (Numbers::Whole, Numeral::Fraction(_)) => Some(RefusalKind::NotWhole),
+        (Numbers::Whole, Numeral::Beyond(_)) => Some(RefusalKind::NumberRange),
+        (Numbers::Decimal, Numeral::Fraction(None) | Numeral::Beyond(None)) => {
+            Some(RefusalKind::NumberRange)
+        }
+        _ => None,
     }
 }
 

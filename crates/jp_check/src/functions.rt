@@ -51,7 +51,7 @@ impl Profile {
         ensures { result ≡ function_within self function }
     {
         match (self, function) {
-            (Profile::Standard, Some(Function::Distinct)) => None,
+            (Profile::Standard | Profile::Decimal, Some(Function::Distinct)) => None,
             _ => function,
         }
     }

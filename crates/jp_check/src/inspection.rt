@@ -160,7 +160,9 @@ impl<'s> Inspection<'s> {
     {
         let wanted = Some(DataType::Value);
         match side {
-            Operand::Literal(literal) => self.pass(fault_of_literal(literal, wanted)),
+            Operand::Literal(literal) => {
+                self.pass(fault_of_literal(literal, wanted, self.profile.numbers()));
+            }
             Operand::Query(query) => self.inner(query, wanted),
             Operand::Call(call) => self.call(call, wanted),
         }
@@ -199,7 +201,9 @@ impl<'s> Inspection<'s> {
         ensures { self.new ≡ past_argument wanted (argument_of argument.now) self.old }
     {
         match argument {
-            Argument::Literal(literal) => self.pass(fault_of_literal(literal, wanted)),
+            Argument::Literal(literal) => {
+                self.pass(fault_of_literal(literal, wanted, self.profile.numbers()));
+            }
             Argument::Query(query) => self.inner(query, wanted),
             Argument::Call(call) => self.call(call, wanted),
             Argument::Logical(expr) => {

@@ -1,7 +1,8 @@
 //! Laws of acceptance, each the contract of a function that does nothing.
 
 ghost use Rattle.jp_reading.specs.Texts.{Text};
-ghost use Rattle.jp_check.specs.Laws.{FaultAtItsComponent, OneAnswer, StandardIsExtended};
+ghost use Rattle.jp_check.specs.Laws.{DecimalIsExtended, FaultAtItsComponent, OneAnswer};
+ghost use Rattle.jp_check.specs.Laws.{StandardIsExtended, WholeIsDecimal};
 ghost use Rattle.jp_check.specs.declared.profile.Profile.{Profile};
 
 use jp_query::laws::{one_reading, one_refusal, spans_of_components};
@@ -26,4 +27,15 @@ pub fn fault_at_its_component()
 /// What is accepted in `Standard` is accepted in `Extended` as the same tree.
 pub fn standard_is_extended()
     ensures { StandardIsExtended }
+{}
+
+/// What is accepted in `Decimal` is accepted in `ExtendedDecimal` as the same tree.
+pub fn decimal_is_extended()
+    ensures { DecimalIsExtended }
+{}
+
+/// What is accepted in `Standard` is accepted in `Decimal` as the same tree, and what is accepted in
+/// `Extended` in `ExtendedDecimal`.
+pub fn whole_is_decimal()
+    ensures { WholeIsDecimal }
 {}

@@ -3,6 +3,7 @@ use Rattle.std.proofs.Common.{◌≡◌, ℕ, List, [], ◌++◌, Option, Some, 
 use Rattle.std.proofs.Common.{inr, subst, sym, refl, ◌∙◌, ap, append_assoc}
 use Rattle.std.proofs.lemmas.List.{append-nil}
 use Rattle.std.specs.Result.{IsErrAnd}
+use Rattle.jp_command.specs.Private.Ended.{ending}
 use Rattle.jp_command.specs.Writes.{GoByCalls, GoesInPart, GoesToAFailure, WritesByCalls}
 use Rattle.jp_command.specs.Writes.{none, one_more}
 use Rattle.jp_command.specs.Written.{GoesAs}
@@ -120,7 +121,7 @@ module _ {W : Type 0} (write_takes : W → Option (List ℕ) → W → Type 0) w
   -- a run that wrote how far its output went says so
   pub writes-by_calls : {X : Type 0} (IsOutput : List ℕ → Type 0) (o p : W) (output : List ℕ)
       (r : Result X Fault) → IsOutput output → GoesAs write_takes o p output r
-      → WritesByCalls write_takes IsOutput o p r
+      → WritesByCalls write_takes IsOutput o p (ending r)
   writes-by_calls IsOutput o p output (Ok x) is goes = (output, is, goes)
   writes-by_calls IsOutput o p output (Err Write) is goes = (output, is, goes)
   writes-by_calls IsOutput o p output (Err NoMemory) is goes = inr (output, is, goes)

@@ -60,7 +60,7 @@ module _ (profile : Profile) {R W : Type 0} (remaining : R → Option (List ℕ)
       (run.0, (output-prefix contents writes_failed _ o p q run.1 kept, fails))
   flush-fails Canon query i j o p q run kept fails =
       (run.0, (output-prefix contents writes_failed _ o p q run.1 kept, fails))
-  flush-fails (Eval form) query i j o p q run kept fails =
+  flush-fails (Eval nodes) query i j o p q run kept fails =
       (output-prefix contents writes_failed _ o p q run kept, fails)
 
   -- after one that is done the output is written
@@ -71,5 +71,5 @@ module _ (profile : Profile) {R W : Type 0} (remaining : R → Option (List ℕ)
       (run.0, output-kept contents writes_failed _ o p q run.1 kept works)
   flush-works Canon query i j o p q run kept works =
       (run.0, output-kept contents writes_failed _ o p q run.1 kept works)
-  flush-works (Eval form) query i j o p q run kept works =
+  flush-works (Eval nodes) query i j o p q run kept works =
       output-kept contents writes_failed _ o p q run kept works

@@ -1,22 +1,28 @@
 -- What paths begin with, value by value on the way.
 use Rattle.std.proofs.Common.{◌≡◌, ℕ, zero, suc, ◌+◌, ◌<◌, ◌≤◌, List, [], ◌∷◌, ◌++◌, Option, Some, None}
 use Rattle.std.proofs.Common.{take, refl, ap, ap₂, sym, ◌∙◌, arith, string_bytes}
-use Rattle.std.proofs.Common.{inl, inr, subst}
+use Rattle.std.proofs.Common.{inl, inr, subst, Bool, true, false, append_assoc, codes, if◌then◌else◌}
 use Rattle.std.proofs.lemmas.Bool.{cases_lt}
 use Rattle.std.proofs.lemmas.Grind.{flat_map-append}
 use Rattle.std.proofs.lemmas.List.{append-nil, take-take}
 use Rattle.std.proofs.lemmas.Option.{same_Some}
 use Rattle.std.specs.List.{flat_map, slice_get}
-use Rattle.jp_document.specs.Path.{step_text}
+use Rattle.jp_document.specs.Node.{Node}
+use Rattle.jp_document.specs.Path.{path_of, step_text}
+use Rattle.jp_document.specs.Text.{text_of}
 use Rattle.jp_document.specs.declared.location.Step.{Step}
 use Rattle.jp_evaluate.specs.Lent.{KeepsWay, kept_of, location_of, way_of}
+use Rattle.jp_lent.specs.Raw.{raw_text}
 use Rattle.jp_evaluate.specs.declared.lent.LentNodes.{LentNodes}
 use Rattle.jp_evaluate.proofs.Walks.Kept.{take-none}
-use Rattle.jp_command.specs.Private.Fronts.{ComesAlong, Follows, HasPathText, IsAlong, way_text}
+use Rattle.jp_command.specs.Lines.{line_of, text_with_path, value_in_line}
+use Rattle.jp_command.specs.Private.Fronts.{ComesAlong, Follows, HasPathText, IsAlong, has_both_by}
+use Rattle.jp_command.specs.Private.Fronts.{path_in_line, text_after_path, way_text}
 use Rattle.jp_command.specs.Private.Shown.{KeepsShown}
 use Rattle.jp_command.specs.declared.front.Front.{Front}
-use Rattle.jp_command.specs.declared.lines.Form.{Form}
-use Rattle.jp_command.specs.declared.lines.Form.TheVariants.{Values, Paths, Both, RawValues, RawBoth}
+use Rattle.jp_command.specs.declared.form.Form.{Form}
+use Rattle.jp_command.specs.declared.form.ValueForm.{ValueForm}
+use Rattle.jp_command.specs.declared.form.ValueForm.TheVariants.{Compact, Omitted, Raw}
 
 -- what was spelled is still there where it is kept
 pub comes : {V M : Type 0} (f : Front) (v w : LentNodes V M) → HasPathText f v → KeepsWay v w → Follows f w
@@ -76,16 +82,28 @@ spelled_all ss i text before past = before ∙ ap way_text (take_past ss i past)
 
 pub comes_along : {V M : Type 0} (form : Form) (f : Front) (v w : LentNodes V M) → IsAlong form f v
     → KeepsShown form v w → ComesAlong form f w
-comes_along Values f v w along keeps = tt
-comes_along Paths f v w along keeps = comes f v w along keeps
-comes_along Both f v w along keeps = comes f v w along keeps
-comes_along RawValues f v w along keeps = tt
-comes_along RawBoth f v w along keeps = comes f v w along keeps
+comes_along form f v w along keeps = λ has. comes f v w (along has) (keeps has)
 
 pub along_none : {V M : Type 0} (form : Form) (f : Front) (v : LentNodes V M) → f.count ≡ 0
     → string_bytes f.text ≡ [] → IsAlong form f v
-along_none Values f v none empty = tt
-along_none Paths f v none empty = has_none f v none empty
-along_none Both f v none empty = has_none f v none empty
-along_none RawValues f v none empty = tt
-along_none RawBoth f v none empty = has_none f v none empty
+along_none form f v none empty = λ has. has_none f v none empty
+
+three : (a b c d : List ℕ) → a ++ (b ++ c ++ d) ≡ ((a ++ b) ++ c) ++ d
+three a b c d =
+    ap (λ t. a ++ t) (append_assoc b c d) ∙ sym (append_assoc a b (c ++ d)) ∙ sym (append_assoc (a ++ b) c d)
+
+-- the parts of a line
+parts : (has_path : Bool) (value : ValueForm) (n : Node)
+    → (if has_path then path_of n.location else [])
+    ++ ((if has_both_by has_path value then codes "\t" else []) ++ value_in_line value n.value ++ codes "\n")
+    ≡ text_with_path has_path value n ++ codes "\n"
+parts false Omitted n = refl
+parts false Compact n = refl
+parts false Raw n = refl
+parts true Omitted n = refl
+parts true Compact n = three (path_of n.location) (codes "\t") (text_of n.value) (codes "\n")
+parts true Raw n = three (path_of n.location) (codes "\t") (raw_text n.value) (codes "\n")
+
+pub line-parts : (form : Form) (n : Node)
+    → path_in_line form n.location ++ text_after_path form n.value ≡ line_of form n
+line-parts form n = parts form.has_path form.value n

@@ -1,8 +1,9 @@
 -- What is kept of an input where a run ends: nothing is said of it, unless its document is refused.
 use Rattle.std.proofs.Common.{◌≡◌, ℕ, Bool, List, Option, Result, Ok, Err, IfErr, refl, subst, sym}
 use Rattle.std.specs.Result.{IsErrAnd}
+use Rattle.jp_check.specs.Numbers.{numbers}
 use Rattle.jp_check.specs.declared.profile.Profile.{Profile}
-use Rattle.jp_document.specs.Document.{IsDocumentFault}
+use Rattle.jp_exact.specs.Defects.{IsDocumentFaultIn}
 use Rattle.jp_document.specs.declared.fault.DocumentFault.{DocumentFault}
 use Rattle.jp_document.specs.declared.fault.DocumentFault.TheVariants as document
 use Rattle.jp_tree.specs.Tree.{QueryTree}
@@ -26,8 +27,12 @@ module _ (profile : Profile) {R W : Type 0} (remaining : R → Option (List ℕ)
   -- a run that refuses its document
   module _ (q : QueryTree) (asked : IsAsked profile text q)
       (reads : ReadsAll remaining has_failed read_gives i j bytes) where
-    of-document : (f : DocumentFault) → IsDocumentFault bytes f → Keeps (fault_of_document f)
+    of-document : (f : DocumentFault) → IsDocumentFaultIn (numbers profile) bytes f → Keeps (fault_of_document f)
     of-document document.NoMemory has = tt
+    of-document (document.NumberRange path) has = (
+      record { q = q; bytes = bytes; asked = asked; reads = reads; fault = has; known = λ is. cc },
+      refl,
+    )
     of-document document.NotJson has = (
       record { q = q; bytes = bytes; asked = asked; reads = reads; fault = has; known = λ is. cc },
       refl,
@@ -42,7 +47,7 @@ module _ (profile : Profile) {R W : Type 0} (remaining : R → Option (List ℕ)
     )
 
     pub keeps-document : {X : Type 0} (r : Result X Fault) (f : DocumentFault)
-        → IsDocumentFault bytes f → IsErrAnd r (λ e. e ≡ fault_of_document f) → IfErr r Keeps
+        → IsDocumentFaultIn (numbers profile) bytes f → IsErrAnd r (λ e. e ≡ fault_of_document f) → IfErr r Keeps
     keeps-document (Ok x) f has is = absurd is
     keeps-document (Err e) f has is = subst Keeps (sym is) (of-document f has)
 

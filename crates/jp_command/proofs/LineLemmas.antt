@@ -15,7 +15,7 @@ use Rattle.jp_command.specs.Private.AsFound.{WritesGiven, WritesPart}
 use Rattle.jp_command.specs.Writes.{GoByCalls, GoesInPart, GoesToAFailure, none}
 use Rattle.jp_command.specs.Written.{GoesAs, StopsWriting}
 use Rattle.jp_command.specs.declared.fault.Fault.{Fault}
-use Rattle.jp_command.specs.declared.lines.Form.{Form}
+use Rattle.jp_command.specs.declared.form.Form.{Form}
 use Rattle.jp_command.specs.declared.fault.Fault.TheVariants.{NoMemory}
 use Rattle.jp_command.proofs.Calls.{failure-append, failure-longer, go-append}
 use Rattle.jp_command.proofs.Calls.{part-append, part-none}

@@ -1,7 +1,8 @@
 -- What the program says of a fault: its line, or that of a refused query or document with an explanation.
 use Rattle.std.proofs.Common.{◌≡◌, ◌⊎◌, ◌∙◌, inl, inr, ℕ, Bool, true, List, Option, Err, subst, sym}
+use Rattle.jp_check.specs.Numbers.{numbers}
 use Rattle.jp_check.specs.declared.profile.Profile.{Profile}
-use Rattle.jp_document.specs.Document.{IsDocumentFault}
+use Rattle.jp_exact.specs.Defects.{IsDocumentFaultIn}
 use Rattle.jp_document.specs.declared.fault.DocumentFault.{DocumentFault}
 use Rattle.jp_command.specs.Line.{EndsAs, RunsLine, TellsExplained, TellsMisread, explained, fault}
 use Rattle.jp_command.specs.Line.{fault_line, misread, status_of}
@@ -26,11 +27,11 @@ tells-refusal old new explains profile query bytes r f is asks (inr told) =
 -- the same of a document
 pub tells-document : (old new : Option (List ℕ)) (explains : Bool) (profile : Profile)
     (query bytes : List ℕ) (d : DocumentFault) (f : Fault) → f ≡ Document d → explains ≡ true
-    → AppendsPrefix old new (fault_line f) ⊎ TellsMisread bytes f old new
+    → AppendsPrefix old new (fault_line f) ⊎ TellsMisread profile bytes f old new
     → TellsFault old new explains profile query bytes f
 tells-document old new explains profile query bytes d f is asks (inl prefix) = line_alone prefix
 tells-document old new explains profile query bytes d f is asks (inr told) =
-    with_misreading d is asks (subst (λ g. TellsMisread bytes g old new) is told)
+    with_misreading d is asks (subst (λ g. TellsMisread profile bytes g old new) is told)
 
 -- what is kept of a run is what the document's fault is of
 module _ {R W : Type 0} (profile : Profile) (remaining : R → Option (List ℕ)) (has_failed : R → Bool)
@@ -38,9 +39,9 @@ module _ {R W : Type 0} (profile : Profile) (remaining : R → Option (List ℕ)
     (writes_failed : W → Bool) (query : List ℕ) (i j : R) (bytes read : List ℕ) where
   pub kept-of_bytes : (f : Fault) → bytes ≡ read
       → KeepsRead profile remaining has_failed read_gives contents writes_failed query i j read f
-      → IsFaultOfBytes bytes f
+      → IsFaultOfBytes profile bytes f
   kept-of_bytes (Document d) all kept =
-      subst (λ t. IsDocumentFault t d) (sym (all ∙ kept.1)) kept.0.fault
+      subst (λ t. IsDocumentFaultIn (numbers profile) t d) (sym (all ∙ kept.1)) kept.0.fault
   kept-of_bytes (Query r) all kept = tt
   kept-of_bytes DocumentTooLarge all kept = tt
   kept-of_bytes NoMemory all kept = tt
@@ -71,10 +72,10 @@ module _ {R W E : Type 0} (remaining : R → Option (List ℕ)) (has_failed : R 
   says-fault profile bytes read f run is all kept (with_misreading d same asks told) =
       let P : Fault → Type 0 = λ g. (ended : Ended profile g) → status ≡ status_of g
       → ended.explains ≡ true → Keeps profile ended.query read g
-      → TellsMisread bytes (Document d) (reports u) (reports v) → Says in
+      → TellsMisread profile bytes (Document d) (reports u) (reports v) → Says in
       subst P (sym same)
       (λ ended is asks kept told. misread profile d is ended asks kept.0
-      (subst (λ t. TellsMisread t (Document d) (reports u) (reports v)) (all ∙ kept.1) told))
+      (subst (λ t. TellsMisread profile t (Document d) (reports u) (reports v)) (all ∙ kept.1) told))
       run is asks kept told
   says-fault profile bytes read f run is all kept (with_explanation r same asks told) =
       let P : Fault → Type 0 = λ g. (ended : Ended profile g) → status ≡ status_of g

@@ -6,7 +6,7 @@ use Rattle.jp_document.specs.Value.{Value}
 use Rattle.jp_evaluate.specs.Nodelist.{nodelist}
 use Rattle.jp_tree.specs.Tree.{QueryTree}
 use Rattle.jp_command.specs.Lines.{line_of}
-use Rattle.jp_command.specs.declared.lines.Form.{Form}
+use Rattle.jp_command.specs.declared.form.Form.{Form}
 
 -- the line of a node behind a text
 abbrev pub line_behind : List ℕ → Form → Node → List ℕ

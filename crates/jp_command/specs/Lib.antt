@@ -11,6 +11,7 @@ pub mod Written
 pub mod CommandLine
 pub mod Help
 pub mod Lines
+pub mod NodeTask
 pub mod Lead
 pub mod Run
 pub mod Selecting

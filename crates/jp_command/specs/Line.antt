@@ -2,9 +2,11 @@
 -- says, and `RunsLine`, which the clause of `run_line` cites.
 use Rattle.std.specs.Prelude.{◌≡◌, ℕ, Bool, true, false, List, ◌++◌, Option, Some, None, Result, Ok}
 use Rattle.std.specs.Prelude.{Err, codes}
+use Rattle.jp_check.specs.Numbers.{numbers}
 use Rattle.jp_check.specs.declared.profile.Profile.{Profile}
 use Rattle.jp_document.specs.Faults.{document_fault_name}
 use Rattle.jp_document.specs.declared.fault.DocumentFault.{DocumentFault}
+use Rattle.jp_evaluate.specs.Nodelist.{nodelist}
 use Rattle.jp_json.specs.Misreading.{IsMisreading}
 use Rattle.jp_json.specs.Told.{misreading_text}
 use Rattle.jp_json.specs.declared.misreading.Misreading.{Misreading}
@@ -16,10 +18,11 @@ use Rattle.jp_command.specs.CommandLine.{asked, jp}
 use Rattle.jp_command.specs.Explained.{IsExplanation, IsExpressionExplanation}
 use Rattle.jp_command.specs.Help.{AreNoCommand, AsksToShow}
 use Rattle.jp_command.specs.Hint.{document_hint}
+use Rattle.jp_command.specs.NodeTask.{status_done}
 use Rattle.jp_command.specs.QueryLine.{IsQueryLine}
-use Rattle.jp_command.specs.Run.{IsOutput, RefusesDocument, RunsEval}
-use Rattle.jp_command.specs.Output.{AppendsPrefix, AppendsSome}
-use Rattle.jp_command.specs.Writes.{WritesByCalls}
+use Rattle.jp_command.specs.Run.{IsNodesOutput, RefusesDocument, RunsNodes}
+use Rattle.jp_command.specs.Output.{AppendsPrefix, AppendsSome, WritesAll}
+use Rattle.jp_command.specs.Writes.{GoByCalls, GoesToAFailure, WritesByCalls}
 use Rattle.jp_command.specs.declared.fault.Fault.{Fault}
 use Rattle.jp_command.specs.declared.fault.Fault.TheVariants.{Query, Document, DocumentTooLarge}
 use Rattle.jp_command.specs.declared.fault.Fault.TheVariants.{NoMemory, Read, Write}
@@ -76,25 +79,27 @@ TellsExpression profile expression r old new =
 
 -- the line of that fault, and behind it how the bytes are misread, and what other form they show, which a
 -- newline ends
-pub record IsMisreadLine (bytes : List ℕ) (f : Fault) (text : List ℕ) : Type 0 where
+pub record IsMisreadLine (profile : Profile) (bytes : List ℕ) (f : Fault) (text : List ℕ) : Type 0 where
   pub m : Misreading
-  pub misread : IsMisreading bytes m
+  pub misread : IsMisreading (numbers profile) bytes m
   pub is : text ≡ fault_line f ++ (misreading_text m ++ (document_hint m bytes ++ codes "\n"))
 
 -- a prefix of them is told
-abbrev pub TellsMisread : List ℕ → Fault → Option (List ℕ) → Option (List ℕ) → Type 0
-TellsMisread bytes f old new =
-    (text : List ℕ) × IsMisreadLine bytes f text × AppendsPrefix old new text
+abbrev pub TellsMisread : Profile → List ℕ → Fault → Option (List ℕ) → Option (List ℕ) → Type 0
+TellsMisread profile bytes f old new =
+    (text : List ℕ) × IsMisreadLine profile bytes f text × AppendsPrefix old new text
 
 -- o and p are the output before and after, u and v what takes the lines of faults
 module _ {W E : Type 0} (contents : W → Option (List ℕ)) (writes_failed : W → Bool)
-    (holds_back : W → Bool) (reports : E → Option (List ℕ)) where
-  -- some text is written and handed on; or a write failed, or there is no memory for the text, and that
-  -- is told, with this status
+    (write_takes : W → Option (List ℕ) → W → Type 0) (holds_back : W → Bool)
+    (reports : E → Option (List ℕ)) where
+  -- some text is written, by calls of which none failed, and handed on; or a prefix of it before a call that
+  -- failed, the last that was made, or there is no memory for it, and that is told, with this status
   pub data EndsShowing (o p : W) (u v : E) (status : ℕ) : Type 0 where
-    whole : status ≡ 0 → v ≡ u → AppendsSome (contents o) (contents p)
-        → writes_failed p ≡ writes_failed o → holds_back p ≡ false → EndsShowing o p u v status
-    in_part : status ≡ 5 → AppendsSome (contents o) (contents p) → writes_failed p ≡ true
+    whole : (text : List ℕ) → status ≡ 0 → v ≡ u → WritesAll contents writes_failed o p text
+        → GoByCalls write_takes o p text → holds_back p ≡ false → EndsShowing o p u v status
+    in_part : (text : List ℕ) → status ≡ 5 → AppendsPrefix (contents o) (contents p) text
+        → GoesToAFailure write_takes o p text → writes_failed p ≡ true
         → AppendsPrefix (reports u) (reports v) (fault_line Write) → EndsShowing o p u v status
     unmade : status ≡ 4 → p ≡ o → AppendsPrefix (reports u) (reports v) (fault_line NoMemory)
         → EndsShowing o p u v status
@@ -109,16 +114,24 @@ module _ (profile : Profile) {R W : Type 0} (remaining : R → Option (List ℕ)
       (j ≡ i) × RunsCheck profile contents writes_failed query o p answer
   RunsTask Canon query i j o p answer =
       (j ≡ i) × RunsCanon profile contents writes_failed query o p answer
-  RunsTask (Eval form) query i j o p answer =
-      RunsEval profile remaining has_failed read_gives contents writes_failed form query i j o p
+  RunsTask (Eval nodes) query i j o p answer =
+      RunsNodes profile remaining has_failed read_gives contents writes_failed nodes query i j o p
       answer
 
   -- this is what a task with its query writes
   abbrev pub IsWrittenBy : Task → List ℕ → R → R → List ℕ → Type 0
   IsWrittenBy Check query i j = IsQueryLine profile accepted_line query
   IsWrittenBy Canon query i j = IsQueryLine profile canon_line query
-  IsWrittenBy (Eval form) query i j =
-      IsOutput profile remaining has_failed read_gives contents writes_failed form query i j
+  IsWrittenBy (Eval nodes) query i j =
+      IsNodesOutput profile remaining has_failed read_gives contents writes_failed nodes query i j
+
+  -- the status of a task that is done, which wrote this
+  abbrev pub status_of_done : (task : Task) (query : List ℕ) (i j : R) (output : List ℕ)
+      → IsWrittenBy task query i j output → ℕ
+  status_of_done Check query i j output is = 0
+  status_of_done Canon query i j output is = 0
+  status_of_done (Eval nodes) query i j output is =
+      status_done nodes.tells_none (nodelist is.q is.d)
 
   -- the task that the words ask for, in that profile, ended with this answer; and whether they ask
   -- for an explanation of a refused query or document
@@ -148,7 +161,9 @@ module _ {R W : Type 0} (remaining : R → Option (List ℕ)) (has_failed : R �
   -- ones that the command line takes, its text is told; its contract says nothing of either
   pub data RunsLine (holds_back : W → Bool) {E : Type 0} (reports : E → Option (List ℕ))
       (words : List (List ℕ)) (i j : R) (o p : W) (u v : E) (status : ℕ) : Type 0 where
-    done : (profile : Profile) → status ≡ 0 → EndsAs profile words i j o p (Ok tt)
+    done : (profile : Profile) → (run : EndsAs profile words i j o p (Ok tt))
+        → status ≡ status_of_done profile remaining has_failed read_gives contents writes_failed
+        run.task run.query i j run.calls.0 run.calls.1
         → holds_back p ≡ false → v ≡ u → RunsLine holds_back reports words i j o p u v status
     fault : (profile : Profile) (f : Fault) → status ≡ status_of f
         → EndsAs profile words i j o p (Err f)
@@ -162,10 +177,10 @@ module _ {R W : Type 0} (remaining : R → Option (List ℕ)) (has_failed : R �
         → (run : EndsAs profile words i j o p (Err (Document f))) → run.explains ≡ true
         → (refused : RefusesDocument profile remaining has_failed read_gives contents writes_failed
         run.query i j f)
-        → TellsMisread refused.bytes (Document f) (reports u) (reports v)
+        → TellsMisread profile refused.bytes (Document f) (reports u) (reports v)
         → RunsLine holds_back reports words i j o p u v status
     shown : asked words ≡ None → AsksToShow jp words → j ≡ i
-        → EndsShowing contents writes_failed holds_back reports o p u v status
+        → EndsShowing contents writes_failed write_takes holds_back reports o p u v status
         → RunsLine holds_back reports words i j o p u v status
     usage : status ≡ 2 → asked words ≡ None → AreNoCommand jp words → j ≡ i → p ≡ o
         → AppendsSome (reports u) (reports v) → RunsLine holds_back reports words i j o p u v status

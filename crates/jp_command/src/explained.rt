@@ -151,14 +151,15 @@ fn expression_explanation(
 pub(crate) fn report_misreading<E: Writer>(
     alloc: Global,
     fault: &Fault,
+    profile: Profile,
     bytes: &[u8],
     faults: &mut E,
 )
-    requires { IsFaultOfBytes bytes.now fault.now }
+    requires { IsFaultOfBytes profile bytes.now fault.now }
     ensures { AppendsPrefix (E.contents faults.old) (E.contents faults.new) (fault_line fault.now)
-        ⊎ TellsMisread bytes.now fault.now (E.contents faults.old) (E.contents faults.new) }
+        ⊎ TellsMisread profile bytes.now fault.now (E.contents faults.old) (E.contents faults.new) }
 {
-    match misread_line(alloc, fault, bytes) {
+    match misread_line(alloc, fault, profile, bytes) {
         Ok(Some(text)) => {
             let _ = write_all(faults, text.as_bytes());
         }
@@ -167,14 +168,19 @@ pub(crate) fn report_misreading<E: Writer>(
 }
 
 /// The line of a fault, and behind it why and where the bytes are no document; None where it is another fault.
-fn misread_line(alloc: Global, fault: &Fault, bytes: &[u8]) -> Result<Option<String>, AllocError>
-    requires { IsFaultOfBytes bytes.now fault.now }
+fn misread_line(
+    alloc: Global,
+    fault: &Fault,
+    profile: Profile,
+    bytes: &[u8],
+) -> Result<Option<String>, AllocError>
+    requires { IsFaultOfBytes profile bytes.now fault.now }
     ensures { IfOk result (λ found. IfSome found
-        (λ text. IsMisreadLine bytes.now fault.now (string_bytes text))) }
+        (λ text. IsMisreadLine profile bytes.now fault.now (string_bytes text))) }
 {
     match fault {
         Fault::Document(refused) => {
-            let misreading = misreading_of(alloc, bytes, refused)?;
+            let misreading = misreading_of(alloc, bytes, profile.numbers(), refused)?;
             let hint = hint(&misreading, bytes);
             Ok(Some(format!(in alloc; "{fault}\n{misreading}{hint}\n")?))
         }
@@ -189,6 +195,9 @@ fn hint(misreading: &Misreading, bytes: &[u8]) -> &'static str
     match misreading.reason {
         JsonReason::AfterValue if is_next_document(misreading.column, misreading.offset, bytes) => {
             " Where each line holds a document, jp-lines reads them."
+        }
+        JsonReason::HasFraction | JsonReason::NegativeZero | JsonReason::OutOfRange => {
+            " With --decimals jp takes numbers of up to 38 digits exactly."
         }
         JsonReason::RecordSeparator => " tr -d '\\036' takes it away.",
         JsonReason::Gzip => " gzip -dc writes what it holds.",

@@ -13,7 +13,8 @@ ghost use Rattle.jp_command.specs.Written.{GoesAs, StopsWriting};
 
 use crate::device::Writer;
 use crate::fault::Fault;
-use crate::lines::{Form, push_after_path};
+use crate::form::Form;
+use crate::lines::push_after_path;
 use crate::output::write_all;
 use jp_document::OwnedStep;
 use jp_held::push_location;
@@ -56,9 +57,10 @@ fn push_path_alone(form: Form, location: &[OwnedStep], line: &mut String) -> Res
     ensures { OnOk result (string_bytes line.new ≡ string_bytes line.old
         ++ path_in_line form (map owned_step location.now)) }
 {
-    match form {
-        Form::Values | Form::RawValues => Ok(()),
-        Form::Paths | Form::Both | Form::RawBoth => push_location(line, location),
+    if form.has_path {
+        push_location(line, location)
+    } else {
+        Ok(())
     }
 }
 

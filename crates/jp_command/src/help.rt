@@ -6,11 +6,14 @@ Each command takes one QUERY. eval, paths and both read a JSON document from sta
 With --extended before or after it, the query may also call the function distinct.
 With --explain a refused query is told with its place, the reason and what to try instead, and
 a refused document with its line, its column and the reason.
+With --raw, eval and both write texts by their characters, without quotes.
+With --first, eval, paths and both go no further than the first node.
+With --exit-status they end with status 6 where no node is selected.
 
 Example: echo '[1,2]' | jp eval '$[-1]'
 
 Statuses: 0 done, 1 query refused, 2 usage, 3 document refused,
-4 want of memory, 5 read or write fault";
+4 want of memory, 5 read or write fault, 6 nothing selected (--exit-status)";
 
 /// What help says of a subcommand.
 #[derive(Debug, Clone, Copy)]

@@ -3,7 +3,7 @@
 //!
 //! ```text
 //! let mut output = Device::new(Vec::new(alloc));
-//! run_eval(alloc, "$.a[-1]", Standard, Form::Both, &mut Device::new(bytes), &mut output)?;
+//! run_eval(alloc, "$.a[-1]", Standard, Form::BOTH, &mut Device::new(bytes), &mut output)?;
 //! ```
 //!
 //! `run_eval` runs one query, read in a profile of jp_check, over one input; `specs/Run.antt` has
@@ -22,6 +22,7 @@ mod eval;
 mod exit;
 mod explained;
 mod fault;
+mod form;
 mod found;
 mod front;
 mod help;
@@ -30,6 +31,7 @@ pub mod laws;
 mod limits;
 mod line;
 mod lines;
+mod node_task;
 mod output;
 mod selecting;
 mod selection_fault;
@@ -44,13 +46,14 @@ pub use eval::{read_within_limit, run_eval};
 pub use exit::exit_status;
 pub use explained::{report_refusal, report_refused_expression};
 pub use fault::Fault;
+pub use form::{Form, ValueForm};
 pub use found::{push_found, write_found};
 pub use help::CommandHelp;
 pub use input::{chunk_buffer, read_all};
 pub use jp_limit::OutputLimit;
 pub use limits::{DOCUMENT_LIMIT, QUERY_LIMIT};
 pub use line::{refuse_words, report, run_line, status};
-pub use lines::{Form, SelectedLines, Spare, selected_lines, write_selected};
+pub use lines::{SelectedLines, Spare, selected_lines, write_selected};
 pub use output::write_all;
 pub use selecting::{Rooms, push_selected};
 pub use selection_fault::{SelectionFault, check_output};

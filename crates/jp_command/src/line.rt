@@ -5,6 +5,7 @@ ghost use Rattle.std.specs.Cow.{cow_str_bytes};
 ghost use Rattle.clap.specs.Words.{kind_of};
 ghost use Rattle.jp_command.specs.Line.{IsWrittenBy, RunsLine, RunsTask, EndsShowing, fault_line, status_of};
 ghost use Rattle.jp_command.specs.Private.Asked.{TellsFault};
+ghost use Rattle.jp_command.specs.Private.Ended.{IsDoneWith, ending};
 ghost use Rattle.jp_command.specs.Private.Kept.{IsFaultOfBytes, KeepsRead};
 ghost use Rattle.jp_command.specs.Writes.{WritesByCalls};
 ghost use Rattle.jp_command.specs.Output.{AppendsPrefix, AppendsSome};
@@ -26,7 +27,8 @@ use std::borrow::CowStr;
 /// Does what `words` ask for, of which the first is the program's name, and answers the status: 0
 /// where it is done, also where help or the version is written to `output`, 1 where the query is
 /// refused, 2 where the words are not ones that the command line takes, 3 where the document is refused,
-/// 4 where the memory did not suffice, 5 where the input or the output failed. Every status but 0 has its
+/// 4 where the memory did not suffice, 5 where the input or the output failed, and 6 where it is done and
+/// no node is selected, if the flag `--exit-status` asks for that. Every status but 0 and 6 has its
 /// line in `faults`, if it can be written there; with status 2 that is clap's own text. With the flag
 /// `--explain` the line of a refused query or document has an explanation behind it, if there is memory
 /// for that. The output is flushed once, after a run that is done.
@@ -45,7 +47,7 @@ pub fn run_line<R: Source, W: Output, E: Writer>(
         Ok(asked) => {
             let mut kept = Vec::new(alloc);
             match run_and_flush(alloc, &asked, input, &mut kept, output) {
-                Ok(()) => 0,
+                Ok(status) => status,
                 Err(fault) => {
                     tell(alloc, &asked, &fault, kept.as_slice(), faults);
                     status(&fault)
@@ -59,8 +61,8 @@ pub fn run_line<R: Source, W: Output, E: Writer>(
 
 /// Writes help or the version, and answers the status.
 fn show<W: Output, E: Writer>(alloc: Global, error: &Error, output: &mut W, faults: &mut E) -> u8
-    ensures { EndsShowing W.contents W.has_failed W.holds_back E.contents output.old output.new faults.old
-        faults.new result }
+    ensures { EndsShowing W.contents W.has_failed W.write_takes W.holds_back E.contents output.old output.new
+        faults.old faults.new result }
 {
     match write_shown(alloc, error, output) {
         Ok(()) => 0,
@@ -71,61 +73,73 @@ fn show<W: Output, E: Writer>(alloc: Global, error: &Error, output: &mut W, faul
     }
 }
 
-/// Runs what is asked for, and flushes the output once that is done. After `Document` what was read is
-/// in `kept`.
+/// Runs what is asked for, and flushes the output once that is done, which is answered with the status. After
+/// `Document` what was read is in `kept`.
 fn run_and_flush<R: Source, W: Output>(
     alloc: Global,
     asked: &Asked<'_>,
     input: &mut R,
     kept: &mut Vec<u8>,
     output: &mut W,
-) -> Result<(), Fault>
+) -> Result<u8, Fault>
     ensures says { RunsTask asked.now.profile R.remaining R.has_failed R.read_gives W.contents
         W.has_failed asked.now.task asked.now.query.now input.old input.new output.old output.new
-        result }
+        (ending result) }
     ensures calls { WritesByCalls W.write_takes (IsWrittenBy asked.now.profile R.remaining
         R.has_failed R.read_gives W.contents W.has_failed asked.now.task asked.now.query.now
-        input.old input.new) output.old output.new result }
+        input.old input.new) output.old output.new (ending result) }
+    ensures done { IfOk result (IsDoneWith asked.now.profile R.remaining R.has_failed R.read_gives
+        W.contents W.has_failed W.write_takes asked.now.task asked.now.query.now input.old input.new
+        output.old output.new) }
     ensures kept { IfErr result (KeepsRead asked.now.profile R.remaining R.has_failed R.read_gives
         W.contents W.has_failed asked.now.query.now input.old input.new kept.new.items) }
     ensures handed_on { OnOk result (W.holds_back output.new ≡ false) }
 {
-    run_task(alloc, asked, input, kept, output)?;
+    let status = run_task(alloc, asked, input, kept, output)?;
     match output.flush() {
-        Ok(()) => Ok(()),
+        Ok(()) => Ok(status),
         Err(_) => Err(Fault::Write),
     }
 }
 
-/// Runs what is asked for. After `Document` what was read is in `kept`.
+/// Runs what is asked for, and answers the status once that is done. After `Document` what was read is in `kept`.
 fn run_task<R: Source, W: Writer>(
     alloc: Global,
     asked: &Asked<'_>,
     input: &mut R,
     kept: &mut Vec<u8>,
     output: &mut W,
-) -> Result<(), Fault>
+) -> Result<u8, Fault>
     ensures says { RunsTask asked.now.profile R.remaining R.has_failed R.read_gives W.contents
         W.has_failed asked.now.task asked.now.query.now input.old input.new output.old output.new
-        result }
+        (ending result) }
     ensures calls { WritesByCalls W.write_takes (IsWrittenBy asked.now.profile R.remaining
         R.has_failed R.read_gives W.contents W.has_failed asked.now.task asked.now.query.now
-        input.old input.new) output.old output.new result }
+        input.old input.new) output.old output.new (ending result) }
+    ensures done { IfOk result (IsDoneWith asked.now.profile R.remaining R.has_failed R.read_gives
+        W.contents W.has_failed W.write_takes asked.now.task asked.now.query.now input.old input.new
+        output.old output.new) }
     ensures kept { IfErr result (KeepsRead asked.now.profile R.remaining R.has_failed R.read_gives
         W.contents W.has_failed asked.now.query.now input.old input.new kept.new.items) }
 {
     let (query, profile) = (asked.query, asked.profile);
     match asked.task {
-        Task::Check => run_check(alloc, query, profile, output),
-        Task::Canon => run_canon(alloc, query, profile, output),
-        Task::Eval(form) => run_eval_keeping(alloc, query, profile, form, input, kept, output),
+        Task::Check => match run_check(alloc, query, profile, output) {
+            Ok(()) => Ok(0),
+            Err(fault) => Err(fault),
+        },
+        Task::Canon => match run_canon(alloc, query, profile, output) {
+            Ok(()) => Ok(0),
+            Err(fault) => Err(fault),
+        },
+        Task::Eval(nodes) => run_eval_keeping(alloc, query, profile, nodes, input, kept, output),
     }
 }
 
 /// Writes the line of a fault, and behind it, where the words ask for that and the query or the
 /// document, of these bytes, is refused, why it is.
 fn tell<E: Writer>(alloc: Global, asked: &Asked<'_>, fault: &Fault, bytes: &[u8], faults: &mut E)
-    requires { IsFaultOfBytes bytes.now fault.now }
+    requires { IsFaultOfBytes asked.now.profile bytes.now fault.now }
     ensures { TellsFault (E.contents faults.old) (E.contents faults.new) asked.now.is_explaining
         asked.now.profile asked.now.query.now bytes.now fault.now }
 {
@@ -134,7 +148,7 @@ fn tell<E: Writer>(alloc: Global, asked: &Asked<'_>, fault: &Fault, bytes: &[u8]
             report_refusal(alloc, asked.query, asked.profile, *refusal, faults);
         }
         Fault::Document(_) if asked.is_explaining => {
-            report_misreading(alloc, fault, bytes, faults);
+            report_misreading(alloc, fault, asked.profile, bytes, faults);
         }
         _ => report(alloc, fault, faults),
     }

@@ -6,7 +6,7 @@ ghost use Rattle.jp_command.specs.Lead.{line_behind, output_behind};
 ghost use Rattle.jp_command.specs.Lines.{line_of};
 ghost use Rattle.jp_command.specs.Output.{WritesAll};
 ghost use Rattle.jp_command.specs.Private.AsFound.{WritesAsFound};
-ghost use Rattle.jp_command.specs.Private.Fronts.{ComesAlong, IsAlong, path_in_line, text_after_path};
+ghost use Rattle.jp_command.specs.Private.Fronts.{ComesAlong, IsAlong, has_both, path_in_line, text_after_path};
 ghost use Rattle.jp_command.specs.Private.Shown.{GivesShown, KeepsShown};
 ghost use Rattle.jp_command.specs.Selecting.{IsBeyond, StopsOnlySpent, first_nodes};
 ghost use Rattle.jp_command.specs.Written.{GoesAs, StopsWriting};
@@ -19,6 +19,7 @@ ghost use Rattle.jp_tree.specs.Views.{query_of};
 
 use crate::device::Writer;
 use crate::fault::Fault;
+use crate::form::{Form, ValueForm};
 use crate::front::Front;
 use crate::output::write_all;
 use crate::selecting::push_rest;
@@ -31,21 +32,6 @@ use jp_match::Marks;
 use jp_select::Steps;
 use std::alloc::{AllocError, Global};
 use std::mem;
-
-/// What is written of each node.
-#[derive(Debug, Clone, Copy, PartialEq, Eq)]
-pub enum Form {
-    /// The compact text of the value.
-    Values,
-    /// The normalized path.
-    Paths,
-    /// The normalized path, a tab and the compact text of the value.
-    Both,
-    /// The value: a string by its characters, any other by its compact text.
-    RawValues,
-    /// The normalized path, a tab and the value as in `RawValues`.
-    RawBoth,
-}
 
 /// Appends the line of the node that was given last, with this value. After an error nothing is said of the front.
 #[inline(always)]
@@ -78,9 +64,10 @@ fn push_front<'d: 'q, 'q, V: Selectable + 'd>(
     ensures path { OnOk result (string_bytes line.new ≡ string_bytes line.old
         ++ path_in_line form (place_of nodes.now)) }
 {
-    match form {
-        Form::Values | Form::RawValues => Ok(()),
-        Form::Paths | Form::Both | Form::RawBoth => front.push_path(nodes, line),
+    if form.has_path {
+        front.push_path(nodes, line)
+    } else {
+        Ok(())
     }
 }
 
@@ -94,20 +81,25 @@ pub(crate) fn push_after_path<V: Selectable>(
     ensures { OnOk result (string_bytes line.new
         ≡ string_bytes line.old ++ text_after_path form (V.meaning value)) }
 {
-    match form {
-        Form::Values => push_value(line, value)?,
-        Form::Paths => {}
-        Form::Both => {
-            line.push('\t')?;
-            push_value(line, value)?;
-        }
-        Form::RawValues => push_raw(line, value)?,
-        Form::RawBoth => {
-            line.push('\t')?;
-            push_raw(line, value)?;
-        }
+    if has_both(form) {
+        line.push('\t')?;
+    }
+    match form.value {
+        ValueForm::Omitted => {}
+        ValueForm::Compact => push_value(line, value)?,
+        ValueForm::Raw => push_raw(line, value)?,
     }
     line.push('\n')
+}
+
+/// Whether the line of a node has a path and a value.
+fn has_both(form: Form) -> bool
+    ensures { result ≡ has_both form }
+{
+    match form.value {
+        ValueForm::Omitted => false,
+        ValueForm::Compact | ValueForm::Raw => form.has_path,
+    }
 }
 
 /// The lines of nodes, in memory.
@@ -261,9 +253,10 @@ pub(crate) fn next_shown<'d: 'q, 'q, V: Selectable + 'd>(
     ensures takes { Takes (steps_of nodes.old) (steps_of nodes.new) }
     ensures stopped { IfSome result (λ r. StopsSpent r (steps_of nodes.new)) }
 {
-    match form {
-        Form::Values | Form::RawValues => nodes.next_value(),
-        Form::Paths | Form::Both | Form::RawBoth => nodes.next_placed(),
+    if form.has_path {
+        nodes.next_placed()
+    } else {
+        nodes.next_value()
     }
 }
 

@@ -16,8 +16,9 @@ ghost use Rattle.jp_limit.specs.OutputLimit.{StaysWithin};
 ghost use Rattle.jp_select.specs.Steps.{Takes};
 ghost use Rattle.jp_tree.specs.Views.{query_of};
 
+use crate::form::Form;
 use crate::front::Front;
-use crate::lines::{Form, next_shown, push_line};
+use crate::lines::{next_shown, push_line};
 use crate::selection_fault::SelectionFault;
 use jp_check::Checked;
 use jp_evaluate::{EvaluationFault, Frame, LentNodes, Patterns, lent_nodes_in};

@@ -1,11 +1,12 @@
 //! Help and the version, which are written where they are asked for.
 
-ghost use Rattle.std.specs.Prelude.{◌≡◌, IfErr, OnOk, false};
+ghost use Rattle.std.specs.Prelude.{◌≡◌, IfErr, OnErr, OnOk, false, true};
 ghost use Rattle.jp_command.specs.Help.{is_shown};
-ghost use Rattle.jp_command.specs.Output.{AppendsSome};
-ghost use Rattle.jp_command.specs.Private.Showing.{StopsShowing};
+ghost use Rattle.jp_command.specs.Output.{AppendsPrefix, AppendsSome, WritesAll};
+ghost use Rattle.jp_command.specs.Private.Showing.{GoesShowing, StopsShowing};
+ghost use Rattle.jp_command.specs.Writes.{GoByCalls, GoesToAFailure};
 
-use crate::device::Output;
+use crate::device::{Failed, Output};
 use crate::fault::Fault;
 use crate::output::write_all;
 use clap::Error;
@@ -20,19 +21,33 @@ pub fn is_shown(kind: ErrorKind) -> bool
 }
 
 /// Writes the text of clap's error and hands it on. `NoMemory` says that there is no memory for the text, and
-/// then nothing is written; `Write` that the output failed.
+/// then nothing is written; `Write` that the output failed: that call is not tried again, and a prefix of the
+/// text is written.
 pub fn write_shown<W: Output>(alloc: Global, error: &Error, output: &mut W) -> Result<(), Fault>
     ensures written { AppendsSome (W.contents output.old) (W.contents output.new) }
     ensures works { OnOk result (W.has_failed output.new ≡ W.has_failed output.old) }
     ensures handed_on { OnOk result (W.holds_back output.new ≡ false) }
     ensures stopped { IfErr result (StopsShowing W.has_failed output.old output.new) }
+    ensures calls { GoesShowing W.contents W.has_failed W.write_takes output.old output.new result }
 {
     let text = error.to_string(alloc)?;
-    let Ok(()) = write_all(output, text.as_bytes()) else {
-        return Err(Fault::Write);
-    };
-    match output.flush() {
+    match write_and_flush(output, text.as_bytes()) {
         Ok(()) => Ok(()),
         Err(_) => Err(Fault::Write),
     }
+}
+
+/// Writes all of `bytes` and hands it on. Where a write or the flush fails, what was written is a prefix of
+/// them, and no further call is made.
+fn write_and_flush<W: Output>(output: &mut W, bytes: &[u8]) -> Result<(), Failed>
+    ensures ok { OnOk result (WritesAll W.contents W.has_failed output.old output.new bytes.now) }
+    ensures prefix { OnErr result
+        (AppendsPrefix (W.contents output.old) (W.contents output.new) bytes.now) }
+    ensures failed { OnErr result (W.has_failed output.new ≡ true) }
+    ensures calls { OnOk result (GoByCalls W.write_takes output.old output.new bytes.now) }
+    ensures stopped { OnErr result (GoesToAFailure W.write_takes output.old output.new bytes.now) }
+    ensures handed_on { OnOk result (W.holds_back output.new ≡ false) }
+{
+    write_all(output, bytes)?;
+    output.flush()
 }

@@ -6,13 +6,15 @@ ghost use Rattle.clap.specs.Words.{IsAmong, app_of, fault_of, found_of, kind_of,
 ghost use Rattle.clap.specs.Words.{subcommand_of, subcommand_rows_of};
 ghost use Rattle.clap.specs.declared.builder.command.Command.TheViews.{out-Command};
 ghost use Rattle.clap.specs.declared.error.kind.ErrorKind.TheVariants.{MissingSubcommand, OutOfMemory};
-ghost use Rattle.jp_command.specs.CommandLine.{asked, asked_by, is_set, jp, profile_asked};
-ghost use Rattle.jp_command.specs.CommandLine.{query_app, task_app, task_called, with_flag};
-ghost use Rattle.jp_command.specs.CommandLine.{with_task};
+ghost use Rattle.jp_command.specs.CommandLine.{asked, asked_by, flagged, flags_asked, is_set, jp};
+ghost use Rattle.jp_command.specs.CommandLine.{nodes_app, numbers_app, profile_asked, query_app};
+ghost use Rattle.jp_command.specs.CommandLine.{task_app, task_called, with_flag, with_nodes_task, with_task};
+ghost use Rattle.jp_command.specs.CommandLine.{with_raw_task};
 ghost use Rattle.jp_command.specs.Private.Asked.{HasNoTask, parts_of};
 
+use crate::form::Form;
 use crate::help::{AFTER_HELP, BOTH, CANON, CHECK, CommandHelp, EVAL, PATHS};
-use crate::lines::Form;
+use crate::node_task::NodeTask;
 use clap::error::ErrorKind;
 use clap::{Arg, ArgAction, ArgMatches, Command, Error};
 use jp_check::Profile;
@@ -28,20 +30,44 @@ pub(crate) enum Task {
     Check,
     /// `canon`: writes the canonical text.
     Canon,
-    /// `eval`, `paths` and `both`: writes a line for each node, in this form.
-    Eval(Form),
+    /// `eval`, `paths` and `both`: writes a line for each of these nodes.
+    Eval(NodeTask),
 }
 
-/// The task that a subcommand's name stands for.
-fn task_named(name: &str) -> Option<Task>
-    ensures { result ≡ task_called name.now }
+/// What the flags of a subcommand say of nodes.
+#[derive(Debug, Clone, Copy)]
+pub(crate) struct NodeFlags {
+    /// Whether the flag `--raw` is given.
+    pub(crate) is_raw: bool,
+    /// Whether the flag `--first` is given.
+    pub(crate) is_first: bool,
+    /// Whether the flag `--exit-status` is given.
+    pub(crate) tells_none: bool,
+}
+
+/// The nodes in that form, of which the flags say which.
+fn flagged(flags: NodeFlags, form: Form) -> Task
+    ensures { result ≡ flagged flags form }
+{
+    Task::Eval(NodeTask {
+        form,
+        is_first: flags.is_first,
+        tells_none: flags.tells_none,
+    })
+}
+
+/// The task that a subcommand's name stands for, with these flags.
+fn task_named(name: &str, flags: NodeFlags) -> Option<Task>
+    ensures { result ≡ task_called name.now flags }
 {
     match name {
         "check" => Some(Task::Check),
         "canon" => Some(Task::Canon),
-        "eval" => Some(Task::Eval(Form::Values)),
-        "paths" => Some(Task::Eval(Form::Paths)),
-        "both" => Some(Task::Eval(Form::Both)),
+        "eval" if flags.is_raw => Some(flagged(flags, Form::RAW_VALUES)),
+        "eval" => Some(flagged(flags, Form::VALUES)),
+        "paths" => Some(flagged(flags, Form::PATHS)),
+        "both" if flags.is_raw => Some(flagged(flags, Form::RAW_BOTH)),
+        "both" => Some(flagged(flags, Form::BOTH)),
         _ => None,
     }
 }
@@ -86,7 +112,25 @@ pub fn query_command<'w>(
     with_flag(alloc, command, "extended", "Lets the query call distinct")
 }
 
-/// A subcommand of `query_command` with the flag `--explain`.
+/// A subcommand of `query_command` with the flag `--decimals`.
+fn numbers_command<'w>(
+    alloc: Global,
+    name: &'w str,
+    help: CommandHelp,
+) -> Result<Command<'w>, AllocError>
+    ensures shape { IfOk result (λ command. app_of command ≡ numbers_app name.entry.now) }
+    ensures local { IfOk result (λ command. (out-Command command).has_globals ≡ false) }
+{
+    let command = query_command(alloc, name, help)?;
+    with_flag(
+        alloc,
+        command,
+        "decimals",
+        "Takes numbers as exact decimals, not whole ones alone",
+    )
+}
+
+/// A subcommand of `numbers_command` with the flag `--explain`.
 fn task_command<'w>(
     alloc: Global,
     name: &'w str,
@@ -95,7 +139,7 @@ fn task_command<'w>(
     ensures shape { IfOk result (λ command. app_of command ≡ task_app name.entry.now) }
     ensures local { IfOk result (λ command. (out-Command command).has_globals ≡ false) }
 {
-    let command = query_command(alloc, name, help)?;
+    let command = numbers_command(alloc, name, help)?;
     with_flag(
         alloc,
         command,
@@ -117,6 +161,50 @@ fn with_task<'w>(
     command.subcommand(task_command(alloc, name, help)?)
 }
 
+/// A subcommand of `task_command` that writes nodes, and so has the flags `--first` and `--exit-status`.
+fn nodes_command<'w>(
+    alloc: Global,
+    name: &'w str,
+    help: CommandHelp,
+) -> Result<Command<'w>, AllocError>
+    ensures shape { IfOk result (λ command. app_of command ≡ nodes_app name.entry.now) }
+    ensures local { IfOk result (λ command. (out-Command command).has_globals ≡ false) }
+{
+    let command = task_command(alloc, name, help)?;
+    let about = "Goes no further than the first node";
+    let command = with_flag(alloc, command, "first", about)?;
+    let about = "Ends with status 6 where no node is selected";
+    with_flag(alloc, command, "exit-status", about)
+}
+
+/// The command with one such subcommand more.
+fn with_nodes_task<'w>(
+    alloc: Global,
+    command: Command<'w>,
+    name: &'w str,
+    help: CommandHelp,
+) -> Result<Command<'w>, AllocError>
+    ensures { IfOk result (λ more.
+        app_of more ≡ with_nodes_task (app_of command.entry) name.entry.now) }
+{
+    command.subcommand(nodes_command(alloc, name, help)?)
+}
+
+/// The command with one such subcommand more that writes values, and so has the flag `--raw`.
+fn with_raw_task<'w>(
+    alloc: Global,
+    command: Command<'w>,
+    name: &'w str,
+    help: CommandHelp,
+) -> Result<Command<'w>, AllocError>
+    ensures { IfOk result (λ more.
+        app_of more ≡ with_raw_task (app_of command.entry) name.entry.now) }
+{
+    let nodes = nodes_command(alloc, name, help)?;
+    let about = "Writes texts by their characters, without quotes";
+    command.subcommand(with_flag(alloc, nodes, "raw", about)?)
+}
+
 /// The whole command line.
 #[tactic(auto, unfolding(crate::specs::CommandLine::jp))]
 fn jp_command<'w>(alloc: Global) -> Result<Command<'w>, AllocError>
@@ -128,9 +216,9 @@ fn jp_command<'w>(alloc: Global) -> Result<Command<'w>, AllocError>
         .after_help(AFTER_HELP);
     let command = with_task(alloc, command, "check", CHECK)?;
     let command = with_task(alloc, command, "canon", CANON)?;
-    let command = with_task(alloc, command, "eval", EVAL)?;
-    let command = with_task(alloc, command, "paths", PATHS)?;
-    let command = with_task(alloc, command, "both", BOTH)?;
+    let command = with_raw_task(alloc, command, "eval", EVAL)?;
+    let command = with_nodes_task(alloc, command, "paths", PATHS)?;
+    let command = with_raw_task(alloc, command, "both", BOTH)?;
     Ok(command.subcommand_required(true))
 }
 
@@ -153,14 +241,26 @@ pub fn is_set(found: &ArgMatches, flag: &str) -> bool
     found.get_one::<bool>(flag).unwrap_or(false)
 }
 
+/// What the flags in the matches of a subcommand say of nodes.
+fn flags_asked(found: &ArgMatches) -> NodeFlags
+    ensures { result ≡ flags_asked (rows_of (found_of found.now)) }
+{
+    NodeFlags {
+        is_raw: is_set(found, "raw"),
+        is_first: is_set(found, "first"),
+        tells_none: is_set(found, "exit-status"),
+    }
+}
+
 /// The profile that the matches of a subcommand ask for.
 pub fn profile_asked(found: &ArgMatches) -> Profile
     ensures { result ≡ profile_asked (rows_of (found_of found.now)) }
 {
-    if is_set(found, "extended") {
-        Profile::Extended
-    } else {
-        Profile::Standard
+    match (is_set(found, "decimals"), is_set(found, "extended")) {
+        (false, false) => Profile::Standard,
+        (false, true) => Profile::Extended,
+        (true, false) => Profile::Decimal,
+        (true, true) => Profile::ExtendedDecimal,
     }
 }
 
@@ -178,7 +278,7 @@ pub(crate) struct Asked<'w> {
 fn asked_by<'w>(name: &str, found: &ArgMatches<'w>) -> Option<Asked<'w>>
     ensures { option_map parts_of result ≡ asked_by (name.now, rows_of (found_of found.now)) }
 {
-    let task = task_named(name)?;
+    let task = task_named(name, flags_asked(found))?;
     let query = found.get_str("QUERY")?;
     Some(Asked {
         task,

@@ -28,7 +28,7 @@ fn lines_are_counted(rt: HostRuntime) -> Result<(), Fail> {
             .ok_or("refused")?;
         let lines = selected_lines(
             alloc,
-            Form::Values,
+            Form::VALUES,
             "",
             most,
             OutputLimit::none(),
@@ -83,7 +83,7 @@ fn lines_keep_to_a_limit(rt: HostRuntime) -> Result<(), Fail> {
             let mut steps = Steps::unlimited();
             let lines = selected_lines(
                 alloc,
-                Form::Values,
+                Form::VALUES,
                 "> ",
                 most,
                 limit,
@@ -110,7 +110,7 @@ fn written_lines_are_counted(rt: HostRuntime) -> Result<(), Fail> {
         let mut written = Vec::new(alloc);
         let answer = write_selected(
             alloc,
-            Form::Paths,
+            Form::PATHS,
             "",
             document.value(),
             &query,

@@ -39,7 +39,7 @@ fn assert_writes(rt: &impl Abort, alloc: Global, taken: usize, takes_none: bool)
         alloc,
         IN_QUOTES,
         Standard,
-        Form::Both,
+        Form::BOTH,
         &mut input,
         &mut output,
     );
@@ -93,7 +93,7 @@ fn tells_each_read_that_fails(rt: HostRuntime) {
             alloc,
             IN_QUOTES,
             Standard,
-            Form::Both,
+            Form::BOTH,
             &mut input,
             &mut output,
         );
@@ -113,7 +113,7 @@ fn stops_reading_an_input_that_never_ends(rt: HostRuntime) {
         let mut written = Vec::new(alloc);
         let mut input = Device::new(&mut blanks);
         let mut output = Device::new(&mut written);
-        let run = run_eval(alloc, "$", Standard, Form::Both, &mut input, &mut output);
+        let run = run_eval(alloc, "$", Standard, Form::BOTH, &mut input, &mut output);
         let failed = (input.failed(), output.failed());
         assert_eq!(rt;
             (run, failed, written.len(), blanks.calls),
@@ -132,7 +132,7 @@ fn writes_a_line_before_it_looks_for_the_next_node(rt: HostRuntime) -> Result<()
         alloc,
         each_item_twice.as_str(),
         Standard,
-        Form::Values,
+        Form::VALUES,
         &mut Device::new(document.as_bytes()),
         &mut Device::new(&mut narrow),
     );
@@ -144,9 +144,9 @@ fn writes_a_line_before_it_looks_for_the_next_node(rt: HostRuntime) -> Result<()
 fn keeps_what_was_written_before_a_failing_write(rt: HostRuntime) {
     let alloc = rt.alloc();
     let rows = [
-        (r#"["ab","cd"]"#, "$.*", Form::Values, "\"ab\"\n\""),
-        ("[[7,8]]", "$[0][1]", Form::Both, "$[0][1]\t8"),
-        (r#"[{"x":1},{"x":2}]"#, "$[?@.x]", Form::Both, ""),
+        (r#"["ab","cd"]"#, "$.*", Form::VALUES, "\"ab\"\n\""),
+        ("[[7,8]]", "$[0][1]", Form::BOTH, "$[0][1]\t8"),
+        (r#"[{"x":1},{"x":2}]"#, "$[?@.x]", Form::BOTH, ""),
     ];
     for (document, query, form, prefix) in rows {
         let mut narrow = Narrow::new(alloc, prefix.len(), true);

@@ -62,5 +62,6 @@ fn name_of(fault: &DocumentFault) -> &'static str {
         DocumentFault::NotWhole(_) => "NotWhole",
         DocumentFault::ListTooLong => "ListTooLong",
         DocumentFault::NoMemory => "NoMemory",
+        DocumentFault::NumberRange(_) => "NumberRange",
     }
 }

@@ -21,18 +21,18 @@ fn lines_of_found_nodes(rt: HostRuntime) -> Result<(), Fail> {
     let location = read_path(alloc, PATH).ok().ok_or("no path")?;
     let location = location.steps();
     for (form, line) in [
-        (Form::Values, "[null]\n"),
-        (Form::Paths, "$['a'][0]['b']\n"),
-        (Form::Both, "$['a'][0]['b']\t[null]\n"),
+        (Form::VALUES, "[null]\n"),
+        (Form::PATHS, "$['a'][0]['b']\n"),
+        (Form::BOTH, "$['a'][0]['b']\t[null]\n"),
     ] {
         let mut found = String::new(alloc);
         push_found(form, location, Some(document.value()), &mut found)?;
         assert_eq!(rt; found.as_str(), line);
     }
     let mut lines = String::from_str(alloc, "before\n")?;
-    push_found(Form::Both, &[], Some(document.value()), &mut lines)?;
+    push_found(Form::BOTH, &[], Some(document.value()), &mut lines)?;
     let none: Option<DocumentValue<'_>> = None;
-    push_found(Form::Both, location, none, &mut lines)?;
+    push_found(Form::BOTH, location, none, &mut lines)?;
     assert_eq!(rt; lines.as_str(), "before\n$\t[null]\n");
     Ok(())
 }
@@ -49,7 +49,7 @@ fn found_nodes_written_until_a_write_fails(rt: HostRuntime) -> Result<(), Fail> 
         let mut line = String::from_str(alloc, "before")?;
         let written = write_found(
             alloc,
-            Form::Both,
+            Form::BOTH,
             LEAD,
             location,
             Some(document.value()),

@@ -5,6 +5,8 @@
 #[cfg(test)]
 mod counts;
 #[cfg(test)]
+mod decimals;
+#[cfg(test)]
 mod devices;
 #[cfg(test)]
 mod explained;
@@ -22,6 +24,8 @@ mod prefixes;
 mod raw;
 #[cfg(test)]
 mod rows;
+#[cfg(test)]
+mod scripts;
 #[cfg(test)]
 mod sources;
 #[cfg(test)]

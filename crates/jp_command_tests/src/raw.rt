@@ -9,20 +9,20 @@ const DOCUMENT: &str = r#"["a\"b\\","c\nd\t\u00e9","","7",7,null,["x"],{"k":"v"}
 /// A form, a query, and what is written.
 const ROWS: [(Form, &str, &str); 6] = [
     (
-        Form::RawValues,
+        Form::RAW_VALUES,
         "$[*]",
         "a\"b\\\nc\nd\té\n\n7\n7\nnull\n[\"x\"]\n{\"k\":\"v\"}\n",
     ),
     (
-        Form::RawBoth,
+        Form::RAW_BOTH,
         "$[1,3,6]",
         "$[1]\tc\nd\té\n$[3]\t7\n$[6]\t[\"x\"]\n",
     ),
-    (Form::RawBoth, "$[6:].*", "$[6][0]\tx\n$[7]['k']\tv\n"),
+    (Form::RAW_BOTH, "$[6:].*", "$[6][0]\tx\n$[7]['k']\tv\n"),
     // queries that name a location
-    (Form::RawValues, "$[0]", "a\"b\\\n"),
-    (Form::RawBoth, "$[7].k", "$[7]['k']\tv\n"),
-    (Form::RawValues, "$[6]", "[\"x\"]\n"),
+    (Form::RAW_VALUES, "$[0]", "a\"b\\\n"),
+    (Form::RAW_BOTH, "$[7].k", "$[7]['k']\tv\n"),
+    (Form::RAW_VALUES, "$[6]", "[\"x\"]\n"),
 ];
 
 #[test]

@@ -2,7 +2,7 @@
 
 use super::devices::{Drip, Trickle};
 use super::{forms, prefixes};
-use jp_check::Profile::{self, Extended, Standard};
+use jp_check::Profile::{self, Decimal, Extended, ExtendedDecimal, Standard};
 use jp_command::{Device, run_line};
 use std::alloc::{AllocError, Global};
 use std::io::Read;
@@ -223,6 +223,11 @@ fn profile_words(
     match profile {
         Standard => words(alloc, &["jp", subcommand, query]),
         Extended => words(alloc, &["jp", subcommand, "--extended", query]),
+        Decimal => words(alloc, &["jp", subcommand, "--decimals", query]),
+        ExtendedDecimal => words(
+            alloc,
+            &["jp", subcommand, "--extended", "--decimals", query],
+        ),
     }
 }
 

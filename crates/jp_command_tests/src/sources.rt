@@ -129,7 +129,7 @@ fn sources_and_writers_tell_what_they_like_of_their_calls(rt: HostRuntime) {
         rt.alloc(),
         "$",
         Standard,
-        Form::Values,
+        Form::VALUES,
         &mut Nothing,
         &mut Device::new(&mut written),
     );
@@ -146,7 +146,7 @@ fn sources_and_writers_tell_what_they_like_of_their_calls(rt: HostRuntime) {
         rt.alloc(),
         "$.*",
         Standard,
-        Form::Values,
+        Form::VALUES,
         &mut input,
         &mut output,
     );

@@ -36,6 +36,16 @@ const FORMS: &[Line] = &[
         (0, "$['\\'']['@']\t2\n", ""),
     ),
     (
+        &["jp", "eval", "--raw", "$[*]"],
+        r#"["a\"b",7,["c"]]"#,
+        (0, "a\"b\n7\n[\"c\"]\n", ""),
+    ),
+    (
+        &["jp", "both", "$[0]", "--raw"],
+        r#"["a\"b",7,["c"]]"#,
+        (0, "$[0]\ta\"b\n", ""),
+    ),
+    (
         &["jp", "paths", "$.*"],
         r#"{"\u001f\n'\\":1}"#,
         (0, "$['\\u001f\\n\\'\\\\']\n", ""),
@@ -157,6 +167,9 @@ fn tells_of_each_subcommand_and_status_in_its_help(rt: HostRuntime) -> Result<()
         "QUERY",
         "--extended",
         "--explain",
+        "--raw",
+        "--first",
+        "--exit-status",
         "jp eval '$[-1]'",
         "0 done",
         "1 query refused",
@@ -164,6 +177,7 @@ fn tells_of_each_subcommand_and_status_in_its_help(rt: HostRuntime) -> Result<()
         "3 document refused",
         "4 want of memory",
         "5 read or write fault",
+        "6 nothing selected",
     ] {
         assert!(rt; help.contains(part), "{part}");
     }

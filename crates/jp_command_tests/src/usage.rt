@@ -6,15 +6,21 @@ use std::test::Fail;
 /// Words with a flag that there is none of, and what is told of them. No tip says that the flag might be a query.
 const UNKNOWN: &[(&[&str], &str)] = &[
     (
-        &["jp", "eval", "--raw", "$"],
+        &["jp", "paths", "--raw", "$"],
         "error: unexpected argument '--raw' found\n\n\
-        Usage: jp eval [OPTIONS] <QUERY> < FILE\n\n\
+        Usage: jp paths [OPTIONS] <QUERY> < FILE\n\n\
         For more information, try '--help'.\n",
     ),
     (
         &["jp", "check", "$", "--first"],
         "error: unexpected argument '--first' found\n\n\
         Usage: jp check [OPTIONS] <QUERY>\n\n\
+        For more information, try '--help'.\n",
+    ),
+    (
+        &["jp", "canon", "--exit-status", "$"],
+        "error: unexpected argument '--exit-status' found\n\n\
+        Usage: jp canon [OPTIONS] <QUERY>\n\n\
         For more information, try '--help'.\n",
     ),
     (

@@ -1,5 +1,6 @@
 pub mod NormalForm
 pub mod OutOfRange
+pub mod AsciiText
 pub mod Begun
 pub mod Moved
 pub mod OneValue

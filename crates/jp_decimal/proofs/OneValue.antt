@@ -144,7 +144,7 @@ body negative int frac fraction exp power all (inr h) t =
     (run-is [] int (46 ∷ (fraction ++ exp)) 0 refl all refl) (rw cut at (run-is (int ++ 46 ∷ []) fraction exp (a + 1) long h.1.all stop.0))
     (rw front at (tail (int ++ 46 ∷ fraction) exp (a + 1 + length fraction) power (omega (arith, length-append int (46 ∷ fraction))) t)))
 
-int-digits : (t : List ℕ) → IsInt t → AreDigits t
+pub int-digits : (t : List ℕ) → IsInt t → AreDigits t
 int-digits t (inl h) = rw h (record { some = lit< tt; all = (lit< tt, tt) })
 int-digits t (inr h) =
     let r : IsInRange 48 57 h.0 = (omega (arith, h.3), h.4) in

@@ -28,6 +28,7 @@ use Rattle.jp_decimal.specs.Grammar.{plus_sign, minus_sign}
 use Rattle.jp_decimal.specs.Number.{IsNormal, scaled_of}
 use Rattle.jp_decimal.specs.Scaled.{Scaled, SameNumber, is_below_zero}
 use Rattle.jp_decimal.specs.TextValue.{value_of_text}
+use Rattle.jp_decimal.specs.declared.number.Decimal.{Decimal as AsDecimal}
 use Rattle.jp_decimal.specs.declared.number.Number.{Number}
 use Rattle.jp_decimal.specs.declared.number.Number.TheVariants.{Whole, Decimal}
 
@@ -81,7 +82,7 @@ first-taken zero ds some h = let no : ⊥ = omega arith in absurd no
 first-taken (suc k) [] some h = h
 first-taken (suc k) (d ∷ ds) some h = h
 
-int-of : (n : ℕ) → n < 10 ^ 64 → IsInt (decimal n)
+pub int-of : (n : ℕ) → n < 10 ^ 64 → IsInt (decimal n)
 int-of zero h = inl (decimal_digit 0 (lit< tt))
 int-of (suc n) h =
     let b : (0 < length (decimal (suc n))) × (49 ≤ get_or (decimal (suc n)) 0 0) = begins (suc n) h (omega arith) in
@@ -235,7 +236,7 @@ places negative n c small low above =
           ])
     ]
 
-all-behind : (ds : List ℕ) (n : ℕ) → AllDigits 10 ds → AllDigits 10 (ds ++ zeros n)
+pub all-behind : (ds : List ℕ) (n : ℕ) → AllDigits 10 ds → AllDigits 10 (ds ++ zeros n)
 all-behind [] zero all = tt
 all-behind [] (suc n) all = (lit< tt, all-behind [] n all)
 all-behind (d ∷ ds) n all = (all.0, all-behind ds n all.1)
@@ -296,7 +297,7 @@ at-size z e h =
     ap (with_sign (is_below_zero z)) (written (unsigned_abs z) h).value ∙ signed-back z in
     λ i. record { coefficient = p i; exponent = e }
 
-whole-text : (z : ℤ) → sign_text (is_below_zero z) ++ decimal (unsigned_abs z) ≡ number_text (Whole z)
+pub whole-text : (z : ℤ) → sign_text (is_below_zero z) ++ decimal (unsigned_abs z) ≡ number_text (Whole z)
 whole-text (pos n) = refl
 whole-text (negsuc n) = refl
 
@@ -320,3 +321,23 @@ pub read-back : (n : Number) → IsNormal n → SameNumber (value_of_text (numbe
 read-back n normal =
     let w : WritesSame (number_text n) (scaled_of n) = writes-number n normal in
     subst (λ x. SameNumber x (scaled_of n)) (sym (one-value (number_text n) w.value w.writes)) w.same
+
+-- the digits of a whole number, with the zeros behind them that its exponent stands for
+pub writes-digits : (d : AsDecimal) (n : ℕ) → IsNormal (Decimal d) → d.exponent ≡ pos n
+    → WritesSame (sign_text (is_below_zero d.coefficient) ++ (decimal (unsigned_abs d.coefficient) ++ zeros n)) (scaled_of (Decimal d))
+writes-digits d n normal at =
+    let negative : Bool = is_below_zero d.coefficient in
+    let size : ℕ = unsigned_abs d.coefficient in
+    let short : size < 10 ^ 64 = omega (arith, normal.short) in
+    let above : 0 < size = omega (arith, normal.ends) in
+    let t : List ℕ = sign_text negative ++ (decimal size ++ zeros n) in
+    subst (λ x. WritesSame t x) (at-size d.coefficient d.exponent short)
+    (subst (λ e. WritesSame t (At negative (decimal size) e)) (sym at) (with-zeros negative size n short above))
+
+-- digits with zeros behind them are those of a whole number
+pub digits-int : (c n : ℕ) → c < 10 ^ 64 → 0 < c → IsInt (decimal c ++ zeros n)
+digits-int c n short above =
+    let ds : List ℕ = decimal c in
+    let b : (0 < length ds) × (49 ≤ get_or ds 0 0) = begins c short above in
+    let f : (0 < length (ds ++ zeros n)) × (49 ≤ get_or (ds ++ zeros n) 0 0) = first-stays ds (zeros n) b.0 b.1 in
+    as-int (ds ++ zeros n) (all-behind ds n (written c short).all) f.0 f.1

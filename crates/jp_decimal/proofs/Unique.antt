@@ -29,14 +29,14 @@ one-normal (AsDecimal c) (AsDecimal d) p q same =
     one-form (scaled_decimal c) (scaled_decimal d) p.ends q.ends same in
     λ i. AsDecimal (record { coefficient = e.0 i; exponent = e.1 i })
 
-Decides-decimal : (c d : Decimal) → Decides (decimals.ghosts.eq c d) (c ≡ d)
+pub Decides-decimal : (c d : Decimal) → Decides (decimals.ghosts.eq c d) (c ≡ d)
 Decides-decimal c d =
     Decides-like _
     (λ e. λ i. record { coefficient = e.0 i; exponent = e.1 i })
     (λ e. (ap (λ (x : Decimal). x.coefficient) e, ap (λ (x : Decimal). x.exponent) e))
     (Decides-and _ _ (Decides-int_eq c.coefficient d.coefficient) (Decides-int_eq c.exponent d.exponent))
 
-Decides-number : (m n : Number) → Decides (numbers.ghosts.eq m n) (m ≡ n)
+pub Decides-number : (m n : Number) → Decides (numbers.ghosts.eq m n) (m ≡ n)
 Decides-number (Whole y) (Whole z) = Decides-like _ (λ e. ap Whole e) (λ e. cc) (Decides-int_eq y z)
 Decides-number (AsDecimal c) (AsDecimal d) = Decides-like _ (λ e. ap AsDecimal e) (λ e. cc) (Decides-decimal c d)
 Decides-number _ _ = (λ h. cc, λ e. cc)

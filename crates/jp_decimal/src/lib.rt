@@ -20,12 +20,14 @@ mod digits;
 pub mod laws;
 mod normal_form;
 mod number;
+mod numbers;
 mod reading;
 mod sizes;
 mod writing;
 
 pub use comparison::compare;
 pub use number::{Decimal, Number};
+pub use numbers::Numbers;
 pub use reading::number_of;
 pub use writing::push_number;
 

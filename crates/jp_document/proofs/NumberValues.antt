@@ -7,13 +7,16 @@ use Rattle.std.proofs.lemmas.Option.{none-some, same_Some}
 use Rattle.fast_float.specs.Text.{with_sign}
 use Rattle.jp_decimal.specs.NormalForm.{IsHeldAs, IsOutOfRange, normal_form, normal_number}
 use Rattle.jp_decimal.specs.NormalForm.{without_zeros}
+use Rattle.jp_decimal.specs.NumberText.{number_text}
 use Rattle.jp_decimal.specs.Number.{IsNormal, is_decimal, is_in_64_bits, is_whole_64, scaled_decimal}
-use Rattle.jp_decimal.specs.Number.{unscaled}
+use Rattle.jp_decimal.specs.Number.{scaled_of, unscaled}
 use Rattle.jp_decimal.specs.Scaled.{Scaled, from_zero, is_below_zero}
+use Rattle.jp_decimal.specs.TextValue.{value_of_text}
 use Rattle.jp_decimal.specs.declared.number.Number.{Number}
 use Rattle.jp_decimal.specs.declared.number.Number.TheVariants.{Whole, Decimal}
 use Rattle.jp_decimal.proofs.NormalForm.{normal_form-right}
-use Rattle.jp_decimal.proofs.Same.{same-itself}
+use Rattle.jp_decimal.proofs.ReadBack.{read-back}
+use Rattle.jp_decimal.proofs.Same.{same-itself, same-sym, same-trans}
 use Rattle.jp_decimal.proofs.Told.{decimal-told}
 use Rattle.jp_decimal.proofs.Unique.{one-normal}
 use Rattle.jp_document.specs.NumberValue.{number_value, value_of_digits}
@@ -136,3 +139,19 @@ number-always {A = A} {a = a} f whole-is decimal-is x =
             → f (if b then whole (c *ℤ pos (10 ^ from_zero e)) else decimal c e) ≡ a
         choose true is = whole-is (c *ℤ pos (10 ^ from_zero e)) (inside c e is)
         choose false is = decimal-is c e
+
+-- the text of a number in the form that it is held in has that number for its value
+pub written-value : (n : Number) → IsNormal n
+    → number_value (value_of_text (number_text n)) ≡ held_value n
+written-value n normal =
+    let x = value_of_text (number_text n) in
+    value-held x n (by (normal_form x) (normal_form-right x))
+  where
+    by : (o : Option Number)
+        → MatchOption o (IsOutOfRange (value_of_text (number_text n)))
+        (IsHeldAs (value_of_text (number_text n))) → o ≡ Some n
+    by None out = absurd (out n normal (same-sym (value_of_text (number_text n)) (scaled_of n) (read-back n normal)))
+    by (Some m) held =
+        ap Some (one-normal m n held.normal normal
+        (same-trans (scaled_of m) (value_of_text (number_text n)) (scaled_of n) held.same
+        (read-back n normal)))

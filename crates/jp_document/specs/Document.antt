@@ -15,6 +15,7 @@ use Rattle.jp_document.specs.Value.{everywhere, list_fits, IsDocumentValue}
 use Rattle.jp_document.specs.declared.fault.DocumentFault.{DocumentFault}
 use Rattle.jp_document.specs.declared.fault.DocumentFault.TheVariants.{NotJson, NotWhole}
 use Rattle.jp_document.specs.declared.fault.DocumentFault.TheVariants.{ListTooLong, NoMemory}
+use Rattle.jp_document.specs.declared.fault.DocumentFault.TheVariants.{NumberRange}
 
 -- the bytes are UTF-8, and `serde_json` reads d from them
 pub record IsReading (bytes : List ℕ) (d : Data) : Type 0 where
@@ -111,9 +112,11 @@ HasDefect bytes not_json = (d : Data) → IsReading bytes d → ⊥
 HasDefect bytes (not_whole path) = HasFraction bytes path
 HasDefect bytes list_too_long = HasLongList bytes
 
--- why the bytes are no document; running out of memory says nothing of them
+-- why the bytes are no document; running out of memory says nothing of them, and no whole number is
+-- out of range
 abbrev pub IsDocumentFault : List ℕ → DocumentFault → Type 0
 IsDocumentFault bytes NotJson = HasDefect bytes not_json
 IsDocumentFault bytes (NotWhole path) = HasDefect bytes (not_whole (string_bytes path))
 IsDocumentFault bytes ListTooLong = HasDefect bytes list_too_long
 IsDocumentFault bytes NoMemory = Unit {0}
+IsDocumentFault bytes (NumberRange path) = ⊥

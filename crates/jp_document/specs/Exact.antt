@@ -1,6 +1,8 @@
 -- Which bytes are a document whose numbers are kept exactly.
 use Rattle.std.specs.Prelude.{◌≡◌, ◌&&◌, ℕ, Bool, true, false, List, Some, IsUtf8, is_some}
 use Rattle.json.specs.Json as json
+use Rattle.jp_decimal.specs.declared.numbers.Numbers.{Numbers}
+use Rattle.jp_decimal.specs.declared.numbers.Numbers.TheVariants.{Whole, Decimal}
 use Rattle.jp_document.specs.Document.{IsDocument}
 use Rattle.jp_document.specs.Value.{Value, IsDocumentValue}
 use Rattle.jp_document.specs.NumberTexts.{exact_number, whole_number}
@@ -18,6 +20,11 @@ pub record IsExactDocument (bytes : List ℕ) (v : Value) : Type 0 where
 abbrev pub IsDocumentBy : Bool → List ℕ → Value → Type 0
 IsDocumentBy false = IsDocument
 IsDocumentBy true = IsExactDocument
+
+-- the bytes are a document with such numbers, whose value is v
+abbrev pub IsDocumentIn : Numbers → List ℕ → Value → Type 0
+IsDocumentIn Whole = IsDocument
+IsDocumentIn Decimal = IsExactDocument
 
 -- ---- laws
 

@@ -1,5 +1,6 @@
 -- The value of what the grammar of JSON reads, by what becomes of the text of a number.
-use Rattle.std.specs.Prelude.{ℕ, List, [], Option, Some, option_map, option_and_then}
+use Rattle.std.specs.Prelude.{◌≡◌, ℕ, List, [], Option, Some, None, IsUtf8, option_map}
+use Rattle.std.specs.Prelude.{option_and_then}
 use Rattle.std.specs.BTreeMap.{insert_entry}
 use Rattle.std.specs.Cmp.Lexicographic.{slice_cmp}
 use Rattle.std.specs.Ordering.{nat_cmp}
@@ -16,6 +17,10 @@ most_levels = 127
 abbrev pub json_in : List ℕ → Option json.Json
 json_in source =
     option_and_then (λ p. json.if_last p.0 p.1) (json.value most_levels (tokens source))
+
+-- the bytes are no UTF-8, or no JSON text (RFC 8259) of at most 127 levels
+abbrev pub IsNoText : List ℕ → Type 0
+IsNoText bytes = IsUtf8 bytes → json_in bytes ≡ None
 
 -- Where numbers s is the value of a number with the text s, None where it has none. The members go
 -- in one after another, by the bytes of their names, so the last value of a name stays.

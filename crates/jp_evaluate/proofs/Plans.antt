@@ -3,7 +3,8 @@ use Rattle.std.proofs.Common.{ℕ, ◌+◌, ◌<◌, All, List, ap, get_or, leng
 use Rattle.std.proofs.Common.{sym, take, ◌∙◌}
 use Rattle.std.proofs.lemmas.List.Elements.{All-more, All-weaker}
 use Rattle.jp_check.specs.Checked.{Profiled}
-use Rattle.jp_document.specs.Document.{IsDocument}
+use Rattle.jp_decimal.specs.declared.numbers.Numbers.{Numbers}
+use Rattle.jp_document.specs.Exact.{IsDocumentIn}
 use Rattle.jp_document.specs.Location.{owned_step}
 use Rattle.jp_document.specs.Node.{node_at}
 use Rattle.jp_flat.specs.Asked.{IsReadFor}
@@ -20,9 +21,9 @@ use Rattle.jp_tree.specs.Views.{query_of}
 use Rattle.jp_evaluate.specs.Named.{NamesLocation}
 use Rattle.jp_evaluate.specs.Plan.{HoldsPortion, IsReadToAnswer, Serves}
 
-pub answers-portion : (q : QueryTree) (p : Portion) (bytes : List ℕ) (e : Excerpt) → Serves q p
-    → IsExcerpt p bytes e → IsReadToAnswer q bytes e
-answers-portion q (Value l) bytes (read.Value k found) names is =
+pub answers-portion : (numbers : Numbers) (q : QueryTree) (p : Portion) (bytes : List ℕ) (e : Excerpt)
+    → Serves q p → IsExcerpt numbers p bytes e → IsReadToAnswer numbers q bytes e
+answers-portion numbers q (Value l) bytes (read.Value k found) names is =
     let at = is.1 in
     let names_it : NamesLocation q (map owned_step k.now) =
     subst (λ ks. NamesLocation q (map owned_step ks)) (sym is.0) names in
@@ -32,21 +33,21 @@ answers-portion q (Value l) bytes (read.Value k found) names is =
       same = ap (λ o. map (node_at (map owned_step k.now)) (option_to_list o)) (sym at.at)
           ∙ sym (names_it at.document);
     }
-answers-portion q (Members asked) bytes (read.Document f) no_more is = record {
+answers-portion numbers q (Members asked) bytes (read.Document f) no_more is = record {
   document = is.document;
   is = is.is;
   same = no_more is.document (document_in f) is.kept;
 }
-answers-portion q Whole bytes (read.Document f) serves is =
+answers-portion numbers q Whole bytes (read.Document f) serves is =
     record { document = document_in f; is = is; same = refl }
-answers-portion q (Value l) bytes (read.Document f) names is = absurd is
-answers-portion q (Members asked) bytes (read.Value k found) no_more is = absurd is
-answers-portion q Whole bytes (read.Value k found) serves is = absurd is
+answers-portion numbers q (Value l) bytes (read.Document f) names is = absurd is
+answers-portion numbers q (Members asked) bytes (read.Value k found) no_more is = absurd is
+answers-portion numbers q Whole bytes (read.Value k found) serves is = absurd is
 
 -- what is kept of a document for what is asked of it
-pub holds-members : (asked : AskedFor) (bytes : List ℕ) (f : Flat) → IsReadFor asked bytes f
-    → HoldsPortion (Members asked) bytes f
-holds-members asked bytes f is = record {
+pub holds-members : (numbers : Numbers) (asked : AskedFor) (bytes : List ℕ) (f : Flat)
+    → IsReadFor numbers asked bytes f → HoldsPortion numbers (Members asked) bytes f
+holds-members numbers asked bytes f is = record {
   document = is.document;
   is = is.is;
   nodes = λ q serves. serves is.document (document_in f) is.kept;
@@ -54,9 +55,9 @@ holds-members asked bytes f is = record {
 }
 
 -- all of a document
-pub holds-whole : (p : Portion) (bytes : List ℕ) (f : Flat) → IsDocument bytes (document_in f)
-    → HoldsPortion p bytes f
-holds-whole p bytes f is = record {
+pub holds-whole : (numbers : Numbers) (p : Portion) (bytes : List ℕ) (f : Flat)
+    → IsDocumentIn numbers bytes (document_in f) → HoldsPortion numbers p bytes f
+holds-whole numbers p bytes f is = record {
   document = document_in f;
   is = is;
   nodes = λ q serves. refl;

@@ -4,7 +4,7 @@ use Rattle.std.specs.Prelude.{[], ◌∷◌, ◌++◌, filter as those_of, Optio
 use Rattle.std.specs.List.{flat_map}
 use Rattle.std.specs.Str.{encode_utf8_all}
 use Rattle.jp_document.specs.Node.{Node, children, root_of}
-use Rattle.jp_document.specs.Value.{Value, null, boolean, whole, text as text_value}
+use Rattle.jp_document.specs.Value.{Value, null, boolean, whole, decimal, text as text_value}
 use Rattle.jp_tree.specs.Singular.{is_singular}
 use Rattle.jp_tree.specs.Tree.{ArgumentTree, CallTree, ExprTree, ExprTrees, LiteralTree}
 use Rattle.jp_tree.specs.Tree.{OperandTree, QueryTree, SegmentTree, SegmentTrees, SelectorTree}
@@ -14,7 +14,8 @@ use Rattle.jp_tree.specs.Tree.{filter, literal, literal_argument, logical_argume
 use Rattle.jp_tree.specs.Tree.{no_arguments, no_exprs, no_segments, no_selectors, node_value}
 use Rattle.jp_tree.specs.Tree.{null_literal, number, query, query_argument, segment, segment_then}
 use Rattle.jp_tree.specs.Tree.{selector_then, text, true_literal}
-use Rattle.jp_tree.specs.declared.tree.Numeral.TheVariants.{Whole}
+use Rattle.jp_decimal.specs.declared.number.Number.TheVariants.{Whole as AsWhole, Decimal as AsDecimal}
+use Rattle.jp_tree.specs.declared.tree.Numeral.TheVariants.{Whole, Beyond, Fraction}
 use Rattle.jp_check.specs.Functions.{function_named}
 use Rattle.jp_check.specs.declared.profile.Profile.TheVariants.{Extended}
 use Rattle.jp_select.specs.Subtree.{subtree_of}
@@ -49,10 +50,12 @@ some_node (Some ns) = has_node ns
 abbrev pub single_node_value : QueryTree → List Node → Option Value
 single_node_value q ns = if is_singular q then only_value ns else None
 
--- the value of a literal (section 2.3.5.1); a number that is not whole, or beyond 64 bits, has none
--- here
+-- the value of a literal (section 2.3.5.1); a number that can't be held has none here
 abbrev pub literal_value : LiteralTree → Option Value
 literal_value (number (Whole z)) = Some (whole z)
+literal_value (number (Beyond (Some d))) = Some (decimal d.coefficient d.exponent)
+literal_value (number (Fraction (Some (AsWhole z)))) = Some (whole z)
+literal_value (number (Fraction (Some (AsDecimal d)))) = Some (decimal d.coefficient d.exponent)
 literal_value (number _) = None
 literal_value (text cs) = Some (text_value (encode_utf8_all cs))
 literal_value true_literal = Some (boolean true)

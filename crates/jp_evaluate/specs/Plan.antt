@@ -1,6 +1,7 @@
 -- What is read of a document for a query, and which nodes it then has (RFC 9535 section 2.1.2).
 use Rattle.std.specs.Prelude.{◌≡◌, ⊤, ℕ, List, Option, Some, None, map, option_map, option_to_list}
-use Rattle.jp_document.specs.Document.{IsDocument}
+use Rattle.jp_decimal.specs.declared.numbers.Numbers.{Numbers}
+use Rattle.jp_document.specs.Exact.{IsDocumentIn}
 use Rattle.jp_document.specs.Location.{Location, owned_step}
 use Rattle.jp_document.specs.Node.{Node, node_at, root_of}
 use Rattle.jp_document.specs.Value.{Value as DocumentValue}
@@ -41,17 +42,19 @@ nodes_read q (read.Document f) = nodelist q (document_in f)
 nodes_read q (read.Value l found) =
     map (node_at (map owned_step l.now)) (option_to_list (option_map document_in (flat_found found)))
 
--- the bytes are a document, and what was read of it has the nodes that the query selects in it
-pub record IsReadToAnswer (q : QueryTree) (bytes : List ℕ) (e : Excerpt) : Type 0 where
-  pub document : DocumentValue
-  pub is : IsDocument bytes document
-  pub same : nodes_read q e ≡ nodelist q document
+-- the bytes are a document with such numbers, and what was read of it has the nodes that the query
+-- selects in it
+pub record IsReadToAnswer (numbers : Numbers) (q : QueryTree) (bytes : List ℕ) (e : Excerpt) : Type 0
+  where
+    pub document : DocumentValue
+    pub is : IsDocumentIn numbers bytes document
+    pub same : nodes_read q e ≡ nodelist q document
 
--- the bytes are a document, of which so much is in the tables that each query which that portion serves
--- selects the same nodes there, and each expression is as true (section 2.3.5)
-pub record HoldsPortion (p : Portion) (bytes : List ℕ) (f : Flat) : Type 0 where
+-- the bytes are a document with such numbers, of which so much is in the tables that each query which
+-- that portion serves selects the same nodes there, and each expression is as true (section 2.3.5)
+pub record HoldsPortion (numbers : Numbers) (p : Portion) (bytes : List ℕ) (f : Flat) : Type 0 where
   pub document : DocumentValue
-  pub is : IsDocument bytes document
+  pub is : IsDocumentIn numbers bytes document
   pub nodes : (q : QueryTree) → Serves q p → nodelist q (document_in f) ≡ nodelist q document
   pub truth : (e : ExprTree) → ServesTest e p
       → holds e (document_in f) (root_of (document_in f)) ≡ holds e document (root_of document)

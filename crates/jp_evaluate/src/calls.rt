@@ -255,6 +255,7 @@ pub(crate) fn argument_query(argument: &Argument) -> Option<NodesQuery<'_>>
 /// The query whose nodes a call answers, if it answers nodes. Calls of `distinct` inside one another
 /// are the same as one.
 #[cycle(arguments)]
+#[inline(always)]
 pub(crate) fn call_query(call: &Call) -> Option<NodesQuery<'_>>
     ensures gives { option_map nodes_query result ≡ call_query (call_of call.now) }
     ensures smaller { IfSome result (λ n. query_size (query_of n.query.now)

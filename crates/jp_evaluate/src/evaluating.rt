@@ -120,16 +120,18 @@ fn text_answer<'q, V, M: Matching>(
         (2 ^ 64 - 1)) work.old.steps work.new.steps) }
 {
     let alloc = evaluation.alloc;
-    work.steps.take_many(pattern.len() as u64)?;
+    work.steps.take_many((text.len() + pattern.len()) as u64)?;
     let Some(pattern) = work.patterns.of(alloc, pattern)? else {
-        work.steps.take_many(text.len() as u64)?;
         return Ok(false);
     };
-    let ahead = pattern.steps_over(text.len()).max(text.len() as u64);
-    work.steps.take_many(ahead)?;
+    let length = text.len() as u64;
+    let ahead = pattern.steps_over(text.len());
+    if ahead > length {
+        work.steps.take_many(ahead - length)?;
+    }
     let mut tests = Tests::new();
     let answer = is_matched(evaluation, extent, pattern, text, &mut tests)?;
-    let beyond = steps_beyond(&tests, ahead);
+    let beyond = steps_beyond(&tests, ahead.max(length));
     if beyond > 0 {
         work.steps.take_many(beyond)?;
     }

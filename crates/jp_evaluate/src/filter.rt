@@ -2,7 +2,8 @@
 
 ghost use Rattle.jp_evaluate.specs.Stopping.{StopsSpent};
 ghost use Rattle.jp_select.specs.Steps.{Takes};
-ghost use Rattle.std.specs.Prelude.{◌≡◌, ◌⊎◌, IfOk, None, map, true};
+ghost use Rattle.std.specs.Prelude.{◌≡◌, ◌⊎◌, IfOk, None, Some, map, true};
+ghost use Rattle.jp_document.specs.Value.{whole};
 ghost use Rattle.jp_tree.specs.declared.tree.Op.TheVariants.{Greater, Less};
 ghost use Rattle.jp_tree.specs.Tree.{exprs, node_value};
 ghost use Rattle.jp_tree.specs.Views.{expr_of, operand_of, query_of};
@@ -20,8 +21,8 @@ use crate::tally::tally;
 use crate::walk::Walk;
 use jp_lent::{Lent, Selectable};
 use jp_match::Matching;
-use jp_select::{Comparable, compare, compare_lent};
-use jp_tree::{Expr, Op, Operand, Query, Subject};
+use jp_select::{Comparable, compare, compare_lent, compare_to_whole};
+use jp_tree::{Expr, Literal, Numeral, Op, Operand, Query, Subject};
 
 /// What stays the same while an expression is evaluated: what the evaluation goes by, and the value
 /// of the current node, `@`.
@@ -47,6 +48,8 @@ impl<'a, 'q, V: Selectable + 'q, M: Matching> Asking<'a, 'q, V, M> {
                 (Operand::Query(left), Operand::Query(right)) => {
                     self.nodes_compare(work, left, *op, right)
                 }
+                (Operand::Query(left), Operand::Literal(Literal::Number(Numeral::Whole(right)))) =>
+                    { self.node_compares(work, left, *op, *right) }
                 _ => {
                     let left = self.operand_value(work, left)?;
                     if is_never(*op, &left) {
@@ -142,6 +145,30 @@ impl<'a, 'q, V: Selectable + 'q, M: Matching> Asking<'a, 'q, V, M> {
         work.steps.take_many(right.segments.len() as u64)?;
         let right = self.node_value(right);
         Ok(compare_lent(op, left, right, &mut work.steps)?)
+    }
+
+    /// Whether a comparison is true of what a singular query selects and a whole number. What it selects
+    /// does not go to memory for it.
+    #[inline(always)]
+    fn node_compares(
+        &self,
+        work: &mut Work,
+        left: &'q Query,
+        op: Op,
+        right: i128,
+    ) -> Result<bool, EvaluationFault>
+        ensures gives { IfOk result (λ answer. answer ≡ compared op
+            (asked V.meaning self.now (operand_value (node_value (query_of left.now))))
+            (Some (whole right))) }
+        ensures takes { Takes work.old.steps work.new.steps }
+        ensures stopped { StopsSpent result work.new.steps }
+    {
+        work.steps.take_many(left.segments.len() as u64)?;
+        let left = self.node_value(left);
+        if is_never(op, &Comparable::of(left)) {
+            return Ok(false);
+        }
+        Ok(compare_to_whole(op, left, right, &mut work.steps)?)
     }
 
     /// The value of a side of a comparison (RFC 9535 section 2.3.5.2.2): of a literal, of the node

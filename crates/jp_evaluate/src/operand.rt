@@ -1,25 +1,30 @@
 //! The values of literals (RFC 9535 section 2.3.5.1), and the texts that values are.
 
 ghost use Rattle.std.specs.Prelude.{◌≡◌, Some, option_map, pos};
-ghost use Rattle.jp_document.specs.Value.{text, whole};
+ghost use Rattle.jp_document.specs.Value.{decimal, text, whole};
 ghost use Rattle.jp_lent.specs.Lending.{seen_value};
+ghost use Rattle.jp_tree.specs.Tree.{number as number_tree};
 ghost use Rattle.jp_tree.specs.Views.{literal_of};
+ghost use Rattle.jp_tree.specs.declared.tree.Numeral.TheVariants.{Fraction};
 ghost use Rattle.jp_select.specs.Comparable.{comparable_of};
 ghost use Rattle.jp_evaluate.specs.Nodelist.{literal_value};
 ghost use Rattle.jp_evaluate.specs.Private.Meanings.{only_text};
 
+use jp_decimal::{Decimal, Number};
 use jp_lent::{Lent, Seen};
 use jp_select::Comparable;
 use jp_tree::{Literal, Numeral};
 
-/// The value of a literal; a number that is not whole, or beyond 64 bits, has none.
+/// The value of a literal; a number that can't be held has none.
 #[inline(always)]
 pub(crate) fn literal_value<V: Lent>(literal: &Literal) -> Comparable<'_, V>
     ensures { comparable_of V.meaning result ≡ literal_value (literal_of literal.now) }
 {
     match literal {
         Literal::Number(Numeral::Whole(number)) => Comparable::Whole(*number),
-        Literal::Number(Numeral::Beyond | Numeral::Fraction) => Comparable::Nothing,
+        Literal::Number(Numeral::Beyond(Some(decimal))) => decimal_side(*decimal),
+        Literal::Number(Numeral::Fraction(Some(number))) => number_side(*number),
+        Literal::Number(Numeral::Beyond(None) | Numeral::Fraction(None)) => Comparable::Nothing,
         Literal::Text(text) => Comparable::Text(text.as_str()),
         Literal::True => Comparable::Bool(true),
         Literal::False => Comparable::Bool(false),
@@ -28,6 +33,26 @@ pub(crate) fn literal_value<V: Lent>(literal: &Literal) -> Comparable<'_, V>
 }
 
 /// The side that has this number.
+fn number_side<'a, V: Lent>(number: Number) -> Comparable<'a, V>
+    ensures { comparable_of V.meaning result ≡ literal_value (number_tree (Fraction (Some number))) }
+{
+    match number {
+        Number::Whole(whole) => Comparable::Whole(whole),
+        Number::Decimal(decimal) => decimal_side(decimal),
+    }
+}
+
+/// The side that has this decimal.
+fn decimal_side<'a, V: Lent>(number: Decimal) -> Comparable<'a, V>
+    ensures { comparable_of V.meaning result ≡ Some (decimal number.coefficient number.exponent) }
+{
+    Comparable::Decimal {
+        exponent: number.exponent,
+        coefficient: number.coefficient,
+    }
+}
+
+/// The side that has this count.
 pub(crate) fn whole<'a, V: Lent>(count: u64) -> Comparable<'a, V>
     ensures { comparable_of V.meaning result ≡ Some (whole (pos count)) }
 {

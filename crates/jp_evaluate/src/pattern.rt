@@ -47,7 +47,9 @@ impl ReadText {
         Ok(ReadText { text, pattern })
     }
 
-    /// Whether this is the text that was read.
+    /// Whether this is the text that was read. It stands apart: inlined into a loop, what comparing texts
+    /// of each length takes is worked out ahead of it.
+    #[inline(never)]
     fn is(&self, text: &str) -> bool
         ensures { IsTrue result ↔ (self.now ≡ text.now) }
     {
@@ -138,7 +140,9 @@ impl Patterns {
         None
     }
 
-    /// Reads a text and keeps it; answers its position.
+    /// Reads a text and keeps it; answers its position. It stands apart, so that texts that are kept take no
+    /// room for it.
+    #[inline(never)]
     fn read(&mut self, alloc: Global, text: &str) -> Result<usize, AllocError>
         ensures { IfOk result (λ i. slice_get self.new.read.items i ≡ Some text.now) }
     {

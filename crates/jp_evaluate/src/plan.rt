@@ -1,7 +1,7 @@
 //! What is read of documents for queries, or for an expression, which is found out once for all of them.
 
 ghost use Rattle.std.specs.Prelude.{◌≡◌, All, IfErr, IfOk, map};
-ghost use Rattle.jp_document.specs.Document.{IsDocumentFault};
+ghost use Rattle.jp_exact.specs.Defects.{IsDocumentFaultIn};
 ghost use Rattle.jp_tree.specs.Tree.{QueryTree};
 ghost use Rattle.jp_tree.specs.Views.{expr_of, query_of};
 ghost use Rattle.jp_evaluate.specs.Named.{location_named};
@@ -11,6 +11,7 @@ ghost use Rattle.jp_evaluate.specs.Private.Asks.{portion_asked};
 use crate::asked::{asked_beside, asked_by, asked_by_test};
 use crate::named::named_location;
 use jp_check::{Checked, CheckedFilter};
+use jp_decimal::Numbers;
 use jp_document::DocumentFault;
 use jp_flat::{AskedFor, Flat, Room};
 use jp_held::{Excerpt, Portion, read_asked, read_into, read_portion};
@@ -83,18 +84,19 @@ impl Plan {
         &self.portion
     }
 
-    /// So much of the document that these bytes are as the query's nodes come from, else what is wrong
-    /// with the bytes. `NoMemory` says nothing of them.
+    /// So much of the document with such numbers that these bytes are as the query's nodes come from, else
+    /// what is wrong with the bytes. `NoMemory` says nothing of them.
     pub fn read<'p, 't>(
         &'p self,
         alloc: Global,
         bytes: &'t [u8],
+        numbers: Numbers,
     ) -> Result<Excerpt<'p, 't>, DocumentFault>
         ensures ok { IfOk result (λ read. (q : QueryTree) → Serves q self.now.portion
-            → IsReadToAnswer q bytes.now read) }
-        ensures fault { IfErr result (IsDocumentFault bytes.now) }
+            → IsReadToAnswer numbers q bytes.now read) }
+        ensures fault { IfErr result (IsDocumentFaultIn numbers bytes.now) }
     {
-        match self.read_into(alloc, Room::new(alloc), bytes) {
+        match self.read_into(alloc, Room::new(alloc), bytes, numbers) {
             Ok(read) => Ok(read),
             Err((_, fault)) => Err(fault),
         }
@@ -106,34 +108,36 @@ impl Plan {
         alloc: Global,
         room: Room,
         bytes: &'t [u8],
+        numbers: Numbers,
     ) -> Result<Excerpt<'p, 't>, (Room, DocumentFault)>
         ensures ok { IfOk result (λ read. (q : QueryTree) → Serves q self.now.portion
-            → IsReadToAnswer q bytes.now read) }
-        ensures fault { IfErr result (λ e. IsDocumentFault bytes.now e.1) }
+            → IsReadToAnswer numbers q bytes.now read) }
+        ensures fault { IfErr result (λ e. IsDocumentFaultIn numbers bytes.now e.1) }
     {
-        let read = read_portion(alloc, room, bytes, &self.portion)?;
+        let read = read_portion(alloc, room, bytes, &self.portion, numbers)?;
         Ok(read)
     }
 
-    /// The document that these bytes are, of which what the plan does not ask for may be left out, in the
-    /// memory of other documents; else that memory, and what is wrong with the bytes. `NoMemory` says
+    /// The document with such numbers that these bytes are, of which what the plan does not ask for may be
+    /// left out, in the memory of other documents; else that memory, and what is wrong with the bytes. `NoMemory` says
     /// nothing of them.
     pub fn read_document<'t>(
         &self,
         alloc: Global,
         room: Room,
         bytes: &'t [u8],
+        numbers: Numbers,
     ) -> Result<Flat<'t>, (Room, DocumentFault)>
-        ensures ok { IfOk result (HoldsPortion self.now.portion bytes.now) }
-        ensures fault { IfErr result (λ e. IsDocumentFault bytes.now e.1) }
+        ensures ok { IfOk result (HoldsPortion numbers self.now.portion bytes.now) }
+        ensures fault { IfErr result (λ e. IsDocumentFaultIn numbers bytes.now e.1) }
     {
         match &self.portion {
             Portion::Members(asked) => {
-                let flat = read_asked(alloc, room, bytes, asked)?;
+                let flat = read_asked(alloc, room, bytes, asked, numbers)?;
                 Ok(flat)
             }
             Portion::Value(_) | Portion::Whole => {
-                let flat = read_into(alloc, room, bytes)?;
+                let flat = read_into(alloc, room, bytes, numbers)?;
                 Ok(flat)
             }
         }

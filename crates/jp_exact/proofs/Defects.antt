@@ -23,8 +23,8 @@ use Rattle.jp_exact.specs.Defects.{number_range}
 use Rattle.jp_exact.specs.Defects.{IsExactFault}
 use Rattle.jp_exact.specs.Laws.{ExactOrDefect}
 use Rattle.jp_exact.specs.Private.RangeFault.{IsRangeFaultAt, IsRangeFaultOf}
-use Rattle.jp_exact.specs.declared.fault.ExactFault.{ExactFault}
-use Rattle.jp_exact.specs.declared.fault.ExactFault.TheVariants.{NumberRange}
+use Rattle.jp_document.specs.declared.fault.DocumentFault.{DocumentFault}
+use Rattle.jp_document.specs.declared.fault.DocumentFault.TheVariants.{NumberRange}
 use Rattle.jp_exact.specs.declared.range_fault.RangeFault.{RangeFault}
 use Rattle.jp_exact.specs.declared.range_fault.RangeFault.TheVariants.{OutOfRange}
 use Rattle.jp_exact.specs.Private.ExactValue.{value_in}
@@ -72,7 +72,7 @@ value-from bytes v x = record {
 }
 
 -- the fault of a text whose first number out of range stands there
-pub fault-from : (bytes : List ℕ) (j : json.Json) (fault : RangeFault) (told : ExactFault)
+pub fault-from : (bytes : List ℕ) (j : json.Json) (fault : RangeFault) (told : DocumentFault)
     → ReadsAsJson bytes j → IsRangeFaultOf (value_in j) fault → IsRangeFaultAt fault told
     → IsExactFault bytes told
 fault-from bytes j (OutOfRange steps) (NumberRange path) text first at = record {
@@ -82,9 +82,10 @@ fault-from bytes j (OutOfRange steps) (NumberRange path) text first at = record 
   first = first;
   spelled = at;
 }
-fault-from bytes j (OutOfRange steps) ExactFault.NoMemory text first at = tt
-fault-from bytes j (OutOfRange steps) ExactFault.NotJson text first at = absurd at
-fault-from bytes j (OutOfRange steps) ExactFault.ListTooLong text first at = absurd at
+fault-from bytes j (OutOfRange steps) DocumentFault.NoMemory text first at = tt
+fault-from bytes j (OutOfRange steps) DocumentFault.NotJson text first at = absurd at
+fault-from bytes j (OutOfRange steps) DocumentFault.ListTooLong text first at = absurd at
+fault-from bytes j (OutOfRange steps) (DocumentFault.NotWhole path) text first at = absurd at
 fault-from bytes j RangeFault.NoMemory told text first at =
     subst (IsExactFault bytes) (sym at) tt
 

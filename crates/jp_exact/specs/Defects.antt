@@ -3,14 +3,17 @@ use Rattle.std.specs.Prelude.{◌≡◌, ◌≢◌, ℕ, Bool, true, false, List
 use Rattle.std.specs.declared.cmp.Ordering.TheVariants.{Less}
 use Rattle.json.specs.Json as json
 use Rattle.jp_decimal.specs.Number.{is_decimal}
+use Rattle.jp_decimal.specs.declared.numbers.Numbers.{Numbers}
+use Rattle.jp_decimal.specs.declared.numbers.Numbers.TheVariants.{Whole, Decimal}
+use Rattle.jp_document.specs.Document.{IsDocumentFault}
 use Rattle.jp_document.specs.Location.{Location, location_cmp, value_at}
 use Rattle.jp_document.specs.NumberTexts.{exact_number}
 use Rattle.jp_document.specs.OfJson.{json_in, value_of_json}
 use Rattle.jp_document.specs.Path.{path_of}
 use Rattle.jp_document.specs.Value.{Value, decimal, everywhere, list_fits}
-use Rattle.jp_exact.specs.declared.fault.ExactFault.{ExactFault}
-use Rattle.jp_exact.specs.declared.fault.ExactFault.TheVariants.{NotJson, NumberRange}
-use Rattle.jp_exact.specs.declared.fault.ExactFault.TheVariants.{ListTooLong, NoMemory}
+use Rattle.jp_document.specs.declared.fault.DocumentFault.{DocumentFault}
+use Rattle.jp_document.specs.declared.fault.DocumentFault.TheVariants.{NotJson, NotWhole, NumberRange}
+use Rattle.jp_document.specs.declared.fault.DocumentFault.TheVariants.{ListTooLong, NoMemory}
 
 -- the bytes are UTF-8, and a JSON text (RFC 8259) of at most 127 levels
 pub record ReadsAsJson (bytes : List ℕ) (parsed : json.Json) : Type 0 where
@@ -70,9 +73,16 @@ HasExactDefect bytes not_json = (parsed : json.Json) → ReadsAsJson bytes parse
 HasExactDefect bytes (number_range path) = HasUnheldNumber bytes path
 HasExactDefect bytes list_too_long = HasTooLongList bytes
 
--- why the bytes are no exact document; running out of memory says nothing of them
-abbrev pub IsExactFault : List ℕ → ExactFault → Type 0
+-- why the bytes are no exact document; running out of memory says nothing of them, and that a number
+-- is not whole is no reason
+abbrev pub IsExactFault : List ℕ → DocumentFault → Type 0
 IsExactFault bytes NotJson = HasExactDefect bytes not_json
 IsExactFault bytes (NumberRange path) = HasExactDefect bytes (number_range (string_bytes path))
 IsExactFault bytes ListTooLong = HasExactDefect bytes list_too_long
 IsExactFault bytes NoMemory = Unit {0}
+IsExactFault bytes (NotWhole path) = ⊥
+
+-- why the bytes are no document with such numbers
+abbrev pub IsDocumentFaultIn : Numbers → List ℕ → DocumentFault → Type 0
+IsDocumentFaultIn Whole = IsDocumentFault
+IsDocumentFaultIn Decimal = IsExactFault

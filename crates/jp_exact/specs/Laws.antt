@@ -1,6 +1,9 @@
 -- Laws about the definitions.
 use Rattle.std.specs.Prelude.{◌≡◌, ◌⊎◌, ℕ, List}
+use Rattle.jp_decimal.specs.declared.numbers.Numbers.{Numbers}
+use Rattle.jp_decimal.specs.declared.numbers.Numbers.TheVariants.{Whole, Decimal}
 use Rattle.jp_document.specs.Exact.{IsExactDocument}
+use Rattle.jp_document.specs.Laws.{DocumentOrDefect}
 use Rattle.jp_document.specs.Value.{Value}
 use Rattle.jp_exact.specs.Defects.{ExactDefect, HasExactDefect}
 
@@ -15,3 +18,8 @@ pub record IsExactOrDefect (bytes : List ℕ) : Type 0 where
 -- whatever the bytes
 abbrev pub ExactOrDefect : Type 0
 ExactOrDefect = (bytes : List ℕ) → IsExactOrDefect bytes
+
+-- bytes are a document with such numbers, or have a defect
+abbrev pub OneDocumentOrDefect : Numbers → Type 0
+OneDocumentOrDefect Whole = DocumentOrDefect
+OneDocumentOrDefect Decimal = ExactOrDefect

@@ -8,15 +8,14 @@
 //!
 //! For the layer above: `exact_value` accepts exactly the exact documents, with the value of each, and
 //! of other bytes names the one defect that they have (`laws`). It makes a tree of the text and then a
-//! value of the tree, so it is for bytes of which a quicker reader can't tell.
+//! value of the tree, so it is for bytes of which a quicker reader can't tell. `read_value` is that or
+//! `parsed_value`, by which numbers a document may have.
 #![tactic(auto)]
 
 mod conversion;
-mod fault;
 pub mod laws;
 mod members;
 mod range_fault;
 mod reading;
 
-pub use fault::ExactFault;
-pub use reading::exact_value;
+pub use reading::{exact_value, read_value};

@@ -5,8 +5,7 @@ ghost use Rattle.jp_document.specs.Location.{owned_step};
 ghost use Rattle.jp_document.specs.Path.{path_of};
 ghost use Rattle.jp_exact.specs.declared.range_fault.RangeFault.TheVariants.{NoMemory};
 
-use crate::fault::ExactFault;
-use jp_document::{OwnedStep, push_step};
+use jp_document::{DocumentFault, OwnedStep, push_step};
 use std::alloc::{AllocError, Global};
 
 /// Why a value can't be held: a number in it is out of range, or memory ran out.
@@ -42,18 +41,18 @@ impl RangeFault {
     }
 
     /// The fault of the bytes whose value can't be held so.
-    pub(crate) fn exact_fault(self, alloc: Global) -> ExactFault
+    pub(crate) fn exact_fault(self, alloc: Global) -> DocumentFault
         ensures { IsRangeFaultAt self result }
     {
         match self {
             RangeFault::OutOfRange(mut steps) => {
                 steps.reverse();
                 match path_text(alloc, &steps) {
-                    Ok(path) => ExactFault::NumberRange(path),
-                    Err(_) => ExactFault::NoMemory,
+                    Ok(path) => DocumentFault::NumberRange(path),
+                    Err(_) => DocumentFault::NoMemory,
                 }
             }
-            RangeFault::NoMemory => ExactFault::NoMemory,
+            RangeFault::NoMemory => DocumentFault::NoMemory,
         }
     }
 }

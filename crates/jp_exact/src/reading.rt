@@ -1,15 +1,15 @@
-//! The value of an exact document.
+//! The value of an exact document, and of one with numbers of either kind.
 
 ghost use Rattle.std.specs.Prelude.{◌≡◌, IfOk, IfErr, option_map};
 ghost use Rattle.json.specs.Value.{value_view};
-ghost use Rattle.jp_document.specs.Exact.{IsExactDocument};
+ghost use Rattle.jp_document.specs.Exact.{IsDocumentIn, IsExactDocument};
 ghost use Rattle.jp_document.specs.OfJson.{json_in};
 ghost use Rattle.jp_document.specs.Value.{value_of};
-ghost use Rattle.jp_exact.specs.Defects.{IsExactFault};
+ghost use Rattle.jp_exact.specs.Defects.{IsDocumentFaultIn, IsExactFault};
 
 use crate::conversion::json_of;
-use crate::fault::ExactFault;
-use jp_document::Json;
+use jp_decimal::Numbers;
+use jp_document::{DocumentFault, Json, parsed_value};
 use json::{Error, Reader, Scratch, Value};
 use std::alloc::{AllocError, Global};
 use std::str;
@@ -18,16 +18,16 @@ use std::str;
 const LEVELS: usize = 127;
 
 /// The value of bytes that are an exact document, else what is wrong with them.
-pub fn exact_value(alloc: Global, bytes: &[u8]) -> Result<Json, ExactFault>
+pub fn exact_value(alloc: Global, bytes: &[u8]) -> Result<Json, DocumentFault>
     ensures ok { IfOk result (λ j. IsExactDocument bytes.now (value_of j)) }
     ensures fault { IfErr result (IsExactFault bytes.now) }
 {
     let Ok(text) = str::from_utf8(bytes) else {
-        return Err(ExactFault::NotJson);
+        return Err(DocumentFault::NotJson);
     };
     let mut scratch = Scratch::new(alloc);
     let Some(parsed) = parsed_text(alloc, text, &mut scratch)? else {
-        return Err(ExactFault::NotJson);
+        return Err(DocumentFault::NotJson);
     };
     let mut fits = true;
     let json = match json_of(alloc, &parsed, &mut fits) {
@@ -37,7 +37,18 @@ pub fn exact_value(alloc: Global, bytes: &[u8]) -> Result<Json, ExactFault>
     if fits {
         Ok(json)
     } else {
-        Err(ExactFault::ListTooLong)
+        Err(DocumentFault::ListTooLong)
+    }
+}
+
+/// The value of bytes that are a document with such numbers, else what is wrong with them.
+pub fn read_value(alloc: Global, bytes: &[u8], numbers: Numbers) -> Result<Json, DocumentFault>
+    ensures ok { IfOk result (λ j. IsDocumentIn numbers bytes.now (value_of j)) }
+    ensures fault { IfErr result (IsDocumentFaultIn numbers bytes.now) }
+{
+    match numbers {
+        Numbers::Whole => parsed_value(alloc, bytes),
+        Numbers::Decimal => exact_value(alloc, bytes),
     }
 }
 

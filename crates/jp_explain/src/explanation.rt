@@ -61,7 +61,7 @@ pub fn explain(
         (λ e. IfSome e.suggestion (λ query. IsSuggested profile (chars (string_bytes query)))) }
 {
     let suggestion = suggestion(alloc, text, profile, refusal)?;
-    let reason = reason_at(alloc, text, refusal)?;
+    let reason = reason_at(alloc, text, profile, refusal)?;
     placed(alloc, text, refusal.place, reason, surroundings, suggestion)
 }
 
@@ -84,15 +84,20 @@ pub fn explain_expression(
 {
     let (query, within) = as_query(alloc, text, refusal)?;
     let suggestion = expression_suggestion(alloc, query.as_str(), profile, within)?;
-    let reason = reason_at(alloc, query.as_str(), within)?;
+    let reason = reason_at(alloc, query.as_str(), profile, within)?;
     placed(alloc, text, refusal.place, reason, surroundings, suggestion)
 }
 
-/// The reason for which a query's text is refused.
-fn reason_at(alloc: Global, text: &str, refusal: Refusal) -> Result<Reason, AllocError> {
+/// The reason for which a query's text is refused in the profile.
+fn reason_at(
+    alloc: Global,
+    text: &str,
+    profile: Profile,
+    refusal: Refusal,
+) -> Result<Reason, AllocError> {
     let characters = characters(alloc, text)?;
     let (front, rest) = split_at_byte(&characters, refusal.place);
-    Ok(reason_of(refusal.kind, front, rest))
+    Ok(reason_of(refusal.kind, profile.numbers(), front, rest))
 }
 
 /// What is told of that byte of the text, for the reason in the surroundings.

@@ -176,8 +176,10 @@ pub enum Reason {
     TooDeep,
     /// `NotWhole`.
     NotWhole,
-    /// `NumberRange`.
+    /// `NumberRange`, where numbers are whole.
     NumberRange,
+    /// `NumberRange`, where numbers are decimals.
+    DecimalRange,
     /// `IndexRange`.
     IndexRange,
     /// `distinct` where the profile lacks it.
@@ -238,6 +240,9 @@ impl Reason {
             },
             Reason::BracketName => {
                 "A name in brackets needs quotes (inside the shell's single quotes, double ones)."
+            },
+            Reason::NotWhole => {
+                "This number has a fraction or an exponent, which the option --decimals reads exactly."
             },
             Reason::Distinct => {
                 "`distinct` is a function of the extended profile alone: give the option --extended."
@@ -424,6 +429,9 @@ impl Reason {
             Reason::NotWhole => "Numbers in queries are whole: write 10, and neither 10.0 nor 1e1.",
             Reason::NumberRange => {
                 "Numbers in queries go from -9223372036854775808 to 18446744073709551615."
+            },
+            Reason::DecimalRange => {
+                "This number has more than 38 digits, or a power of ten that is not from -1000000 to 1000000."
             },
             Reason::IndexRange => "Indexes go from -9007199254740991 to 9007199254740991.",
             Reason::Distinct => {

@@ -6,6 +6,7 @@ use crate::marks::{
     is_inside, is_quoted, last_name, name_at, stem, without_first, without_last, without_name,
 };
 use crate::reason::Reason;
+use jp_decimal::Numbers;
 use jp_query::RefusalKind;
 
 /// The reasons why text is no query, in the order in which they are tried.
@@ -112,13 +113,22 @@ fn first_marked(reasons: &[Reason], front: &[char], rest: &[char]) -> Option<Rea
     None
 }
 
-/// The reason for a refusal of that kind, by the text before its place and the text from there on.
-pub(crate) fn reason_of(kind: RefusalKind, front: &[char], rest: &[char]) -> Reason {
+/// The reason for a refusal of that kind where there are these numbers, by the text before its place and
+/// the text from there on.
+pub(crate) fn reason_of(
+    kind: RefusalKind,
+    numbers: Numbers,
+    front: &[char],
+    rest: &[char],
+) -> Reason {
     match kind {
         RefusalKind::Syntax => syntax_reason(front, rest),
         RefusalKind::TooDeep => Reason::TooDeep,
         RefusalKind::NotWhole => Reason::NotWhole,
-        RefusalKind::NumberRange => Reason::NumberRange,
+        RefusalKind::NumberRange => match numbers {
+            Numbers::Whole => Reason::NumberRange,
+            Numbers::Decimal => Reason::DecimalRange,
+        },
         RefusalKind::IndexRange => Reason::IndexRange,
         RefusalKind::UnknownFunction => unknown_reason(name_at(rest)),
         RefusalKind::ArgumentCount => Reason::ArgumentCount,

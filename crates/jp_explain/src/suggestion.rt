@@ -66,7 +66,7 @@ fn attempted(
 {
     let characters = characters(alloc, text)?;
     let (front, rest) = split_at_byte(&characters, refusal.place);
-    let reason = reason_of(refusal.kind, front, rest);
+    let reason = reason_of(refusal.kind, profile.numbers(), front, rest);
     match mended(alloc, reason, Cut { front, rest })? {
         Some(text) => read(alloc, text, profile),
         None => Ok(Attempt::Nothing),

@@ -2,6 +2,7 @@
 use Rattle.std.proofs.Common.{◌≡◌, ℕ, Bool, true, false, List, [], IsUtf8, is_some, sym, ap, subst, unwrap_or}
 use Rattle.std.proofs.Common.{Option, Some, None, ◌∙◌}
 use Rattle.json.specs.Lex.{tokens}
+use Rattle.jp_decimal.specs.declared.numbers.Numbers.TheVariants.{Whole}
 use Rattle.jp_document.specs.Document.{IsDocument}
 use Rattle.jp_document.specs.Location.{Location}
 use Rattle.jp_document.specs.Value.{IsDocumentValue, null}
@@ -72,12 +73,12 @@ module _ (bytes : List ℕ) (t : Shown) (l : Location) (whole : t.exact ≡ fals
         (IsDocumentValue-at x.value x.found.0 l (document-found (Some i) x).valid x.found.1))
 
     pub value-found : (f : Flat) → FindsInText bytes t l (Some f.root) → shown f.tables ≡ t
-        → IsValueAt bytes l (Some f)
+        → IsValueAt Whole bytes l (Some f)
     value-found f x same = record {
       document = x.value;
       is = document-found (Some f.root) x;
       at = x.found.1 ∙ ap Some (sym (ap (λ u. meaning u f.root) same ∙ meaning-found f.root x));
     }
 
-    pub none-found : FindsInText bytes t l None → IsValueAt bytes l None
+    pub none-found : FindsInText bytes t l None → IsValueAt Whole bytes l None
     none-found x = record { document = x.value; is = document-found None x; at = x.found }

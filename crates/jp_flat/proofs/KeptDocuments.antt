@@ -2,6 +2,7 @@
 use Rattle.std.proofs.Common.{◌≡◌, ℕ, true, false, List, [], IsUtf8, inl, inr, is_some, refl, sym, ap, subst}
 use Rattle.std.proofs.Common.{string_bytes, unwrap_or, ◌∙◌}
 use Rattle.json.specs.Lex.{tokens}
+use Rattle.jp_decimal.specs.declared.numbers.Numbers.TheVariants.{Whole}
 use Rattle.jp_document.specs.Value.{IsDocumentValue, Value, null}
 use Rattle.jp_reading.proofs.Conjunctions.{and-both}
 use Rattle.jp_flat.specs.Asked.{IsKept, IsReadFor, IsThinned, is_listed}
@@ -68,7 +69,7 @@ kept-sound asked bytes t i whole utf8 x =
 
 pub kept-document : (asked : AskedFor) (bytes : List ℕ) (f : Flat) (t : Shown) → t.exact ≡ false
     → IsUtf8 bytes
-    → shown f.tables ≡ t → KeepsFlatText asked bytes t f.root → IsReadFor asked bytes f
+    → shown f.tables ≡ t → KeepsFlatText asked bytes t f.root → IsReadFor Whole asked bytes f
 kept-document asked bytes f t whole utf8 same x = record {
   document = x.value;
   is = document_from_text bytes x.value utf8 (kept-whole_numbers asked bytes t f.root whole x)

@@ -11,7 +11,7 @@ use Rattle.json.proofs.Grammar.{value-begin_object, value_is}
 use Rattle.serde_json.specs.Data.{Data}
 use Rattle.serde_json.specs.Read.{of_json}
 use Rattle.jp_document.specs.Document.{HasDefect, not_json}
-use Rattle.jp_document.specs.OfJson.{most_levels}
+use Rattle.jp_document.specs.OfJson.{IsNoText, most_levels}
 use Rattle.jp_flat.specs.Private.NoJson.{Halts, IsAhead, IsFault, IsMet, HasNoItems, HasNoMembers, HasNoValue, is_lone}
 use Rattle.jp_flat.specs.declared.met.Met.{Met}
 use Rattle.jp_flat.specs.declared.met.Met.TheVariants.{End, Fault, Other}
@@ -286,9 +286,30 @@ pub no-json-by : (bytes : List ℕ)
     → HasDefect bytes not_json
 no-json-by bytes goes d reads = never-read _ goes d reads.reading
 
+-- such tokens are not all of a text
+behind-none : (bytes : List ℕ) → HasNoValue most_levels (tokens bytes)
+    → (r : List Token) → skip_value most_levels (tokens bytes) ≡ Some r → r ≢ []
+behind-none bytes none r is empty =
+    let b = none r is in
+    let e = sym b.is ∙ empty in
+    cc e
+
 pub no-json-of : (bytes : List ℕ) → HasNoValue most_levels (tokens bytes) → HasDefect bytes not_json
-no-json-of bytes none =
-    no-json-by bytes (λ r is empty. let b = none r is in let e = sym b.is ∙ empty in cc e)
+no-json-of bytes none = no-json-by bytes (behind-none bytes none)
+
+no-text-read : (o : Option (Json × List Token)) → ((r : List Token) → left o ≡ Some r → r ≢ [])
+    → option_and_then (λ p. if_last p.0 p.1) o ≡ None
+no-text-read None goes = refl
+no-text-read (Some (j, [])) goes = absurd (goes [] refl refl)
+no-text-read (Some (j, t ∷ ts)) goes = refl
+
+pub no-text-by : (bytes : List ℕ)
+    → ((r : List Token) → skip_value most_levels (tokens bytes) ≡ Some r → r ≢ [])
+    → IsNoText bytes
+no-text-by bytes goes utf8 = no-text-read (value most_levels (tokens bytes)) goes
+
+pub no-text-of : (bytes : List ℕ) → HasNoValue most_levels (tokens bytes) → IsNoText bytes
+no-text-of bytes none = no-text-by bytes (behind-none bytes none)
 
 -- ---- through a cursor
 

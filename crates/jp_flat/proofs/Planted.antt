@@ -1,15 +1,32 @@
 -- The values of a tree that were put into tables: for the loops of `put_items` and `put_members`.
-use Rattle.std.proofs.Common.{◌≡◌, ◌+◌, ◌<◌, ◌++◌, ℕ, Bool, Global, List, [], ◌∷◌, Option, Some, String}
+use Rattle.std.proofs.Common.{◌≡◌, ◌+◌, ◌<◌, ◌++◌, ℕ, ℤ, Vec, Bool, true, false, subst, Global, List, [], ◌∷◌, Option, Some, String}
 use Rattle.std.proofs.Common.{ap, append_assoc, append-nil, get_or, length, map, option_and_then}
 use Rattle.std.proofs.Common.{option_map, refl, rules, string_bytes, sym, take, ◌∙◌}
+use Rattle.std.specs.List.{list_all}
+use Rattle.std.proofs.lemmas.Bool.{false≢true}
 use Rattle.std.proofs.lemmas.List.{map_more, take-map}
-use Rattle.jp_document.specs.Value.{Value, boolean, null, text, value_of}
-use Rattle.jp_document.specs.declared.value.Json.{Null, Bool as Truth, Text, the_lemmas}
+use Rattle.std.proofs.lemmas.List.Folds.{list_all-map, list_all_at}
+use Rattle.jp_reading.proofs.Conjunctions.{and-right}
+use Rattle.jp_decimal.specs.Number.{is_decimal, scaled_decimal}
+use Rattle.jp_decimal.specs.NumberText.{number_text}
+use Rattle.jp_decimal.specs.declared.number.Decimal.{Decimal as Held}
+use Rattle.jp_decimal.specs.declared.number.Number.TheVariants.{Decimal as AsDecimal}
+use Rattle.jp_decimal.proofs.Told.{decimal-told}
+use Rattle.jp_document.proofs.Descent.Inside.{all-items, all-members}
+use Rattle.jp_document.proofs.NumberValues.{written-value}
+use Rattle.jp_document.specs.Value.{IsDocumentValue, Value, boolean, decimal, everywhere, is_allowed}
+use Rattle.jp_document.specs.Value.{items_of, list, member_of, members_of, null, object, text, value_of}
+use Rattle.jp_document.specs.declared.value.Json.{Json, Null, Bool as Truth, Decimal, Text, the_lemmas}
+use Rattle.jp_document.specs.declared.value.Json.{List as AsList, Members as AsMembers}
+use Rattle.jp_document.specs.declared.value.Member.{Member}
 use Rattle.jp_flat.specs.Flat.{Grows, Shown, all_of, flat_value, member_with, text_at}
 use Rattle.jp_flat.specs.declared.item.Item.{Item}
+use Rattle.jp_flat.specs.declared.item.Item.TheVariants as code
+use Rattle.jp_flat.specs.declared.item.Span.{Span}
 use Rattle.jp_flat.specs.declared.item.Named.{Named}
 use Rattle.jp_flat.proofs.Growth.{all_of_grows, all_of_push, grows_on, grows_same, member_grows}
 use Rattle.jp_flat.proofs.Growth.{text_grows, value_grows}
+use Rattle.jp_flat.proofs.Leaves.{numeral-means}
 
 -- ---- values without parts
 
@@ -21,6 +38,55 @@ boolean_is b = search (rules, the_lemmas)
 
 pub text_is : (s : String Global) → value_of (Text s) ≡ text (string_bytes s)
 text_is s = search (rules, the_lemmas)
+
+pub decimal-is : (e c : ℤ) → value_of (Decimal e c) ≡ decimal c e
+decimal-is e c = search (rules, the_lemmas)
+
+pub list-is : (v : Vec Json Global) → value_of (AsList v) ≡ list (items_of (map value_of v.items))
+list-is v = search (rules, the_lemmas)
+
+pub members-is : (v : Vec Member Global)
+    → value_of (AsMembers v) ≡ object (members_of (map member_of v.items))
+members-is v = search (rules, the_lemmas)
+
+-- the text of a decimal that is held stands for that decimal
+pub decimal-means : (n : ℕ) (t : Shown) (p : Span) (d : Held) → is_decimal d.coefficient d.exponent ≡ true
+    → text_at t p ≡ Some (number_text (AsDecimal d))
+    → flat_value n t (code.Numeral p) ≡ Some (decimal d.coefficient d.exponent)
+decimal-means n t p d fits at =
+    numeral-means n t p (number_text (AsDecimal d)) at
+    ∙ ap Some (written-value (AsDecimal d) ((decimal-told (scaled_decimal d)).0 fits))
+
+-- ---- what may be a document's value
+
+pub decimal-allowed : (j : Json) (e c : ℤ) → IsDocumentValue (value_of j) → j ≡ Decimal e c
+    → is_decimal c e ≡ true
+decimal-allowed j e c may is =
+    subst IsDocumentValue (ap value_of is ∙ decimal-is e c) may
+
+pub items-allowed : (j : Json) (v : Vec Json Global) → IsDocumentValue (value_of j) → j ≡ AsList v
+    → list_all (everywhere is_allowed) (map value_of v.items) ≡ true
+items-allowed j v may is =
+    sym (all-items is_allowed (map value_of v.items))
+    ∙ and-right _ _ (subst IsDocumentValue (ap value_of is ∙ list-is v) may)
+
+pub members-allowed : (j : Json) (v : Vec Member Global) → IsDocumentValue (value_of j)
+    → j ≡ AsMembers v
+    → list_all (λ m. everywhere is_allowed m.1) (map member_of v.items) ≡ true
+members-allowed j v may is =
+    sym (all-members is_allowed (map member_of v.items))
+    ∙ and-right _ _ (subst IsDocumentValue (ap value_of is ∙ members-is v) may)
+
+-- what each passes, the one at i passes
+pub passes-at : {X Y : Type 0} (p : Y → Bool) (f : X → Y) (xs : List X) (i : ℕ) (x : X)
+    → list_all p (map f xs) ≡ true → i < length xs → x ≡ get_or xs i x → p (f x) ≡ true
+passes-at p f xs i x all within is = by (p (f x)) refl
+  where
+    by : (b : Bool) → p (f x) ≡ b → p (f x) ≡ true
+    by true so = so
+    by false so = absurd (false≢true
+        (sym (list_all_at (λ y. p (f y)) xs i x within (ap (λ y. p (f y)) (sym is) ∙ so))
+        ∙ sym (list_all-map p f xs) ∙ all))
 
 -- ---- parts
 

@@ -4,7 +4,8 @@ use Rattle.std.specs.Prelude.{if◌then◌else◌, String, string_bytes}
 use Rattle.std.specs.Cmp.Lexicographic.{slice_cmp}
 use Rattle.std.specs.Ordering.{is_eq, nat_cmp}
 use Rattle.std.specs.declared.alloc.Global.{Global}
-use Rattle.jp_document.specs.Document.{IsDocument}
+use Rattle.jp_decimal.specs.declared.numbers.Numbers.{Numbers}
+use Rattle.jp_document.specs.Exact.{IsDocumentIn}
 use Rattle.jp_document.specs.Value.{Value, null, boolean, whole, decimal, text, list, object}
 use Rattle.jp_document.specs.Value.{Items, no_items, item, Members, no_members, member}
 use Rattle.jp_flat.specs.FlatValue.{document_in}
@@ -83,8 +84,9 @@ IsKept (OfRoot names) d u = (u ≡ d) ⊎ (u ≡ with_members (is_listed names.i
 IsKept (OfItems names) d u = (u ≡ d) ⊎ (u ≡ with_items_of (is_listed names.items) d)
 IsKept (Anywhere name) d u = IsThinned (string_bytes name) d u
 
--- the bytes are a document, of which so much is kept as that is asked of it
-pub record IsReadFor (asked : AskedFor) (bytes : List ℕ) (f : Flat) : Type 0 where
-  pub document : Value
-  pub is : IsDocument bytes document
-  pub kept : IsKept asked document (document_in f)
+-- the bytes are a document with such numbers, of which so much is kept as that is asked of it
+pub record IsReadFor (numbers : Numbers) (asked : AskedFor) (bytes : List ℕ) (f : Flat) : Type 0
+  where
+    pub document : Value
+    pub is : IsDocumentIn numbers bytes document
+    pub kept : IsKept asked document (document_in f)

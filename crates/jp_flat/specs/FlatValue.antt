@@ -1,6 +1,7 @@
 -- Values of documents in tables, wherever they stand (RFC 9535 section 1.1).
 use Rattle.std.specs.Prelude.{◌≡◌, ℕ, List, Option, Some, None, option_map}
-use Rattle.jp_document.specs.Document.{IsDocument}
+use Rattle.jp_decimal.specs.declared.numbers.Numbers.{Numbers}
+use Rattle.jp_document.specs.Exact.{IsDocumentIn}
 use Rattle.jp_document.specs.Location.{Location, Step, step_of, value_at}
 use Rattle.jp_document.specs.Value.{Value}
 use Rattle.jp_document.specs.declared.location.Step as code
@@ -14,10 +15,12 @@ use Rattle.jp_flat.specs.declared.flat_value.FlatValue.{FlatValue}
 abbrev pub document_in : Flat → Value
 document_in f = meaning (shown f.tables) f.root
 
--- the bytes are a document that has this value at the location, or none where there is none
-pub record IsValueAt (bytes : List ℕ) (l : Location) (found : Option Flat) : Type 0 where
+-- the bytes are a document with such numbers that has this value at the location, or none where
+-- there is none
+pub record IsValueAt (numbers : Numbers) (bytes : List ℕ) (l : Location) (found : Option Flat)
+    : Type 0 where
   pub document : Value
-  pub is : IsDocument bytes document
+  pub is : IsDocumentIn numbers bytes document
   pub at : value_at document l ≡ option_map document_in found
 
 -- the tables of the value that was found, if there is one

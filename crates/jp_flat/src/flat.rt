@@ -1,6 +1,7 @@
 //! Documents in tables.
 
 ghost use Rattle.std.specs.Prelude.{◌≡◌, [], true, IfOk, IfSome, OnSome, Some, map, option_map, string_bytes};
+ghost use Rattle.jp_decimal.specs.declared.numbers.Numbers.TheVariants.{Whole};
 ghost use Rattle.jp_document.specs.Document.{IsDocument};
 ghost use Rattle.jp_document.specs.Location.{owned_step};
 ghost use Rattle.jp_flat.specs.Flat.{is_flat, meaning, shown};
@@ -196,7 +197,7 @@ impl Room {
     /// The document that these bytes are, in this memory, of which what is not asked for may be left
     /// out. An `Err` gives the memory back, and says nothing of the bytes.
     pub fn read_asked<'t>(self, bytes: &'t [u8], asked: &AskedFor) -> Result<Flat<'t>, Room>
-        ensures { IfOk result (IsReadFor asked.now bytes.now) }
+        ensures { IfOk result (IsReadFor Whole asked.now bytes.now) }
     {
         let Ok(text) = simdutf8::basic::from_utf8(bytes) else {
             return Err(self);
@@ -220,7 +221,7 @@ impl Room {
     /// found while the document is read, and takes no memory for what stands elsewhere but for texts
     /// with escapes on the way to it. An `Err` gives the memory back, and says nothing of the bytes.
     pub fn read_at<'t>(self, bytes: &'t [u8], location: &[OwnedStep]) -> Result<Found<'t>, Room>
-        ensures { IfOk result (λ f. IsValueAt bytes.now (map owned_step location.now) (flat_found f)) }
+        ensures { IfOk result (λ f. IsValueAt Whole bytes.now (map owned_step location.now) (flat_found f)) }
     {
         let Ok(text) = simdutf8::basic::from_utf8(bytes) else {
             return Err(self);

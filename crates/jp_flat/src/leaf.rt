@@ -11,7 +11,7 @@ use crate::cursor::Cursor;
 use crate::item::Item;
 use crate::moving::put;
 use crate::number::number;
-use crate::numeral::numeral;
+use crate::numeral::taken;
 use crate::spans::text_span;
 use crate::tables::Tables;
 use crate::token::Token;
@@ -59,10 +59,7 @@ pub(crate) fn leaf<const EXACT: bool>(tables: &mut Tables<'_>, token: Token<'_>)
             Some(item)
         }
         Token::Numeral(first, text) => {
-            if !EXACT {
-                return None;
-            }
-            let item = numeral(tables, first, text)?;
+            let item = taken::<EXACT>(tables, first, text)?;
             Some(item)
         }
         Token::Text(text) => {

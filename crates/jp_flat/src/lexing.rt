@@ -269,18 +269,33 @@ fn number<'t, const EXACT: bool>(bytes: &'t [u8], from: Point) -> Option<(Token<
         return None;
     }
     let Some(point) = word_passed(bytes, end) else {
-        return if EXACT {
-            numeral(bytes, from, end)
-        } else {
-            None
-        };
+        return behind_whole::<EXACT>(bytes, from, end);
     };
     Some((whole::<EXACT>(bytes, from.at, end, size), point))
 }
 
+/// The number that goes on behind its whole part, where numbers are read exactly.
+fn behind_whole<'t, const EXACT: bool>(
+    bytes: &'t [u8],
+    from: Point,
+    whole: usize,
+) -> Option<(Token<'t>, Point)>
+    requires inside { (from.at ≤ whole) × (whole ≤ length bytes.now) }
+    requires begins { may_begin (expected_of from.expected) ≡ true }
+    requires whole { after_whole (after_minus (drop from.at bytes.now)) ≡ Some (drop whole bytes.now) }
+    ensures gives { IfSome result (λ r. GivesToken bytes.now from (token_of r.0) r.1) }
+    ensures stands { IfSome result (λ r. TokenHolds bytes.now r.0) }
+    ensures within { IfSome result (λ r. r.1.at ≤ length bytes.now) }
+{
+    if EXACT {
+        numeral(bytes, from, whole)
+    } else {
+        None
+    }
+}
+
 /// The whole number between two offsets, where numbers are taken exactly by its characters if it has more
 /// than 18 or may be -0.
-#[inline(always)]
 fn whole<const EXACT: bool>(bytes: &[u8], from: usize, end: usize, size: u64) -> Token<'_>
     requires within { (from ≤ end) × (end ≤ length bytes.now) }
     requires sized { IsSized (take (end - from) (drop from bytes.now)) size }

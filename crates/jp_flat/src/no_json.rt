@@ -7,6 +7,7 @@ ghost use Rattle.json.specs.Json.{skip_value};
 ghost use Rattle.json.specs.Reads.{skip_items, skip_members};
 ghost use Rattle.json.specs.Token.{Token as JsonToken};
 ghost use Rattle.jp_document.specs.Document.{HasDefect, not_json};
+ghost use Rattle.jp_document.specs.OfJson.{IsNoText};
 ghost use Rattle.jp_flat.specs.Private.NoJson.{Halts, IsAhead, HasNoItems, HasNoMembers, HasNoValue};
 ghost use Rattle.jp_flat.specs.Private.NoJson.{IsOfKind};
 ghost use Rattle.jp_flat.specs.Private.Tokens.{token_of};
@@ -41,7 +42,8 @@ pub(crate) enum Impasse {
 
 /// Whether the bytes are told to be no JSON value of at most 127 levels. `false` says nothing of them.
 pub fn is_no_json(alloc: Global, bytes: &[u8]) -> bool
-    ensures { result ≡ true → HasDefect bytes.now not_json }
+    ensures whole { result ≡ true → HasDefect bytes.now not_json }
+    ensures text { result ≡ true → IsNoText bytes.now }
 {
     let Ok(text) = simdutf8::basic::from_utf8(bytes) else {
         return true;

@@ -15,10 +15,26 @@ use crate::tables::Tables;
 use jp_decimal::{Number, number_of};
 use jp_lent::Seen;
 
+/// `numeral` where numbers are read exactly, else None.
+pub(crate) fn taken<const EXACT: bool>(
+    tables: &Tables<'_>,
+    first: usize,
+    text: &[u8],
+) -> Option<Item>
+    requires { StandsAt tables.now.text.now first text.now }
+    ensures { IfSome result (IsTaken (shown tables.now) text.now) }
+{
+    if EXACT {
+        numeral(tables, first, text)
+    } else {
+        None
+    }
+}
+
 /// The number with these characters, which stand in the text from this offset on, where the tables take
 /// such numbers. None where it can't be held, or stands beyond 2^32 bytes.
 #[inline(never)]
-pub(crate) fn numeral(tables: &Tables<'_>, first: usize, text: &[u8]) -> Option<Item>
+fn numeral(tables: &Tables<'_>, first: usize, text: &[u8]) -> Option<Item>
     requires { StandsAt tables.now.text.now first text.now }
     ensures { IfSome result (IsTaken (shown tables.now) text.now) }
 {

@@ -3,6 +3,7 @@
 ghost use Rattle.std.specs.Prelude.{◌≡◌, ◌+◌, ◌≤◌, IfSome, OnSome, Some};
 ghost use Rattle.std.specs.Prelude.{drop, length, option_map, string_bytes, take};
 ghost use Rattle.json.specs.Text.{content, plain};
+ghost use Rattle.jp_decimal.specs.NumberText.{number_text};
 ghost use Rattle.jp_flat.specs.Flat.{Grows, piece, shown, text_at};
 ghost use Rattle.jp_flat.specs.Private.Tokens.{HasSpan, IsEndOf, IsSpelledIn, StandsAt, said};
 
@@ -10,6 +11,7 @@ use crate::escapes::push_content;
 use crate::item::Span;
 use crate::tables::Tables;
 use crate::token::Spelled;
+use jp_decimal::{Number, push_number};
 
 /// The span of a text: where the document spells it, else, with its escapes undone in the room, behind the
 /// spare texts. None where its escapes are none, no memory is left, or more than 2^32 bytes would
@@ -62,6 +64,17 @@ pub(crate) fn spared(tables: &mut Tables<'_>, text: &str) -> Option<Span>
 {
     let old = tables.spare.len();
     tables.spare.push_str(text).ok()?;
+    let span = spare_from(tables, old)?;
+    Some(span)
+}
+
+/// The text of a number, as a new spare text.
+pub(crate) fn spared_number(tables: &mut Tables<'_>, number: Number) -> Option<Span>
+    ensures spelled { IfSome result (λ s. text_at (shown tables.new) s ≡ Some (number_text number)) }
+    ensures grows { OnSome result (Grows (shown tables.old) (shown tables.new)) }
+{
+    let old = tables.spare.len();
+    push_number(&mut tables.spare, number).ok()?;
     let span = spare_from(tables, old)?;
     Some(span)
 }

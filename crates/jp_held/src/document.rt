@@ -3,14 +3,14 @@
 ghost use Rattle.std.specs.Prelude.{◌≡◌, map, option_map, IfOk, IfErr};
 ghost use Rattle.jp_document.specs.Value.{IsDocumentValue, value_of};
 
-use jp_document::{
-    DocumentFault, DocumentValue, Json, Node, OwnedLocation, OwnedStep, Step, parsed_value,
-};
+use jp_decimal::Numbers;
+use jp_document::{DocumentFault, DocumentValue, Json, Node, OwnedLocation, OwnedStep, Step};
+use jp_exact::read_value;
 use jp_flat::{flat_document, is_no_json};
 use jp_lent::json_of;
 use std::alloc::Global;
 
-/// A JSON document: whole numbers from -(2^63) to (2^64)-1, texts in UTF-8, member names that are
+/// A JSON document: whole numbers from -(2^63) to (2^64)-1, or decimals where they are taken, texts in UTF-8, member names that are
 /// texts and strictly rise by their bytes, lists of at most (2^53)-1 items.
 #[derive(Drop)]
 pub struct Document {
@@ -20,6 +20,8 @@ pub struct Document {
 
 impl Document {
     ghost use Rattle.jp_document.specs.Document.{IsDocument, IsDocumentFault};
+    ghost use Rattle.jp_document.specs.Exact.{IsDocumentIn};
+    ghost use Rattle.jp_exact.specs.Defects.{IsDocumentFaultIn};
     ghost use Rattle.jp_held.specs.Held.{document_of};
     ghost use Rattle.jp_document.specs.DocumentValue.{lent_value};
     ghost use Rattle.jp_document.specs.Location.{owned_step, step_of, value_at};
@@ -38,20 +40,25 @@ impl Document {
             Some(flat) => Ok(Document {
                 json: json_of(alloc, flat.value())?,
             }),
-            None => Document::parsed(alloc, bytes),
+            None => Document::parsed(alloc, bytes, Numbers::Whole),
         }
     }
 
-    /// The document that `serde_json` reads from these bytes.
-    pub(crate) fn parsed(alloc: Global, bytes: &[u8]) -> Result<Document, DocumentFault>
-        ensures ok { IfOk result (λ d. IsDocument bytes.now (document_of d)) }
-        ensures fault { IfErr result (IsDocumentFault bytes.now) }
+    /// The document with such numbers that a tree is made of, which `serde_json` reads from these bytes, or
+    /// `jp_exact` where numbers are decimals.
+    pub(crate) fn parsed(
+        alloc: Global,
+        bytes: &[u8],
+        numbers: Numbers,
+    ) -> Result<Document, DocumentFault>
+        ensures ok { IfOk result (λ d. IsDocumentIn numbers bytes.now (document_of d)) }
+        ensures fault { IfErr result (IsDocumentFaultIn numbers bytes.now) }
     {
         // The tree that it reads into takes many times what these bytes do.
         if is_no_json(alloc, bytes) {
             return Err(DocumentFault::NotJson);
         }
-        let json = parsed_value(alloc, bytes)?;
+        let json = read_value(alloc, bytes, numbers)?;
         Ok(Document { json })
     }
 

@@ -1,89 +1,114 @@
 //! From bytes to tables, or to what is wrong with the bytes.
 //!
-//! Tables are made in one pass, which stops at the first number that is not whole. `serde_json`
-//! decides: where a later member of the same name replaces such a number, the bytes are a document.
+//! Tables of whole numbers are made in one pass, which stops at the first number that is not whole.
+//! `serde_json` decides: where a later member of the same name replaces such a number, the bytes are a
+//! document. So does `jp_exact` where numbers are decimals, of the first that can't be held.
 
 ghost use Rattle.std.specs.Prelude.{◌≡◌, IfErr, IfOk, map};
-ghost use Rattle.jp_document.specs.Document.{IsDocument, IsDocumentFault};
+ghost use Rattle.jp_decimal.specs.declared.numbers.Numbers.TheVariants.{Decimal};
+ghost use Rattle.jp_document.specs.Exact.{IsDocumentIn};
 ghost use Rattle.jp_document.specs.Location.{owned_step};
+ghost use Rattle.jp_exact.specs.Defects.{IsDocumentFaultIn};
 ghost use Rattle.jp_flat.specs.Asked.{IsReadFor};
 ghost use Rattle.jp_flat.specs.FlatValue.{IsValueAt, document_in, flat_found};
 ghost use Rattle.jp_held.specs.Portions.{IsExcerpt};
 
 use crate::document::Document;
+use crate::located::located;
 use crate::portion::{Excerpt, Portion};
+use jp_decimal::Numbers;
 use jp_document::{DocumentFault, OwnedStep};
-use jp_flat::{AskedFor, Flat, Found, Room, flat_document};
+use jp_flat::{AskedFor, Flat, Found, Room};
 use std::alloc::Global;
 
-/// The document that these bytes are, in tables, else what is wrong with them. `NoMemory` says
-/// nothing of the bytes: memory ran out, or they are too many for tables (2^32).
-pub fn read_flat(alloc: Global, bytes: &[u8]) -> Result<Flat<'_>, DocumentFault>
-    ensures ok { IfOk result (λ f. IsDocument bytes.now (document_in f)) }
-    ensures fault { IfErr result (IsDocumentFault bytes.now) }
+/// The document with such numbers that these bytes are, in tables, else what is wrong with them.
+/// `NoMemory` says nothing of the bytes: memory ran out, or they are too many for tables (2^32).
+pub fn read_flat(alloc: Global, bytes: &[u8], numbers: Numbers) -> Result<Flat<'_>, DocumentFault>
+    ensures ok { IfOk result (λ f. IsDocumentIn numbers bytes.now (document_in f)) }
+    ensures fault { IfErr result (IsDocumentFaultIn numbers bytes.now) }
 {
-    match flat_document(alloc, bytes) {
-        Some(flat) => Ok(flat),
-        None => read_by_tree(alloc, bytes),
+    match read_into(alloc, Room::new(alloc), bytes, numbers) {
+        Ok(flat) => Ok(flat),
+        Err((_, fault)) => Err(fault),
     }
 }
 
-/// So much of the document that these bytes are as is wanted, in the memory of other documents, which an
-/// `Err` gives back; else what is wrong with them, as `read_flat` says: with what is not wanted, too.
+/// So much of the document with such numbers that these bytes are as is wanted, in the memory of other
+/// documents, which an `Err` gives back; else what is wrong with them, as `read_flat` says: with what is
+/// not wanted, too.
 pub fn read_portion<'p, 't>(
     alloc: Global,
     room: Room,
     bytes: &'t [u8],
     portion: &'p Portion,
+    numbers: Numbers,
 ) -> Result<Excerpt<'p, 't>, (Room, DocumentFault)>
-    ensures ok { IfOk result (IsExcerpt portion.now bytes.now) }
-    ensures fault { IfErr result (λ e. IsDocumentFault bytes.now e.1) }
+    ensures ok { IfOk result (IsExcerpt numbers portion.now bytes.now) }
+    ensures fault { IfErr result (λ e. IsDocumentFaultIn numbers bytes.now e.1) }
 {
     match portion {
         Portion::Value(location) => {
-            let found = read_value_into(alloc, room, bytes, location)?;
+            let found = read_value_into(alloc, room, bytes, location, numbers)?;
             Ok(Excerpt::Value(location, found))
         }
         Portion::Members(asked) => {
-            let flat = read_asked(alloc, room, bytes, asked)?;
+            let flat = read_asked(alloc, room, bytes, asked, numbers)?;
             Ok(Excerpt::Document(flat))
         }
         Portion::Whole => {
-            let flat = read_into(alloc, room, bytes)?;
+            let flat = read_into(alloc, room, bytes, numbers)?;
             Ok(Excerpt::Document(flat))
         }
     }
 }
 
 /// `read_flat` in the memory of other documents, which an `Err` gives back.
-pub fn read_into(alloc: Global, room: Room, bytes: &[u8]) -> Result<Flat<'_>, (Room, DocumentFault)>
-    ensures ok { IfOk result (λ f. IsDocument bytes.now (document_in f)) }
-    ensures fault { IfErr result (λ e. IsDocumentFault bytes.now e.1) }
+pub fn read_into(
+    alloc: Global,
+    room: Room,
+    bytes: &[u8],
+    numbers: Numbers,
+) -> Result<Flat<'_>, (Room, DocumentFault)>
+    ensures ok { IfOk result (λ f. IsDocumentIn numbers bytes.now (document_in f)) }
+    ensures fault { IfErr result (λ e. IsDocumentFaultIn numbers bytes.now e.1) }
 {
-    match room.read(bytes) {
+    match tables_of(room, bytes, numbers) {
         Ok(flat) => Ok(flat),
-        Err(room) => match read_by_tree(alloc, bytes) {
+        Err(room) => match read_by_tree(alloc, bytes, numbers) {
             Ok(flat) => Ok(flat),
             Err(fault) => Err((room, fault)),
         },
     }
 }
 
-/// What the document that these bytes are has at this location, in the memory of other documents, which
-/// an `Err` gives back with what is wrong with the bytes. It is found while the document is read.
+/// The document with such numbers that these bytes are, in this memory. An `Err` gives the memory back
+/// and says nothing of the bytes.
+fn tables_of(room: Room, bytes: &[u8], numbers: Numbers) -> Result<Flat<'_>, Room>
+    ensures { IfOk result (λ f. IsDocumentIn numbers bytes.now (document_in f)) }
+{
+    match numbers {
+        Numbers::Whole => room.read(bytes),
+        Numbers::Decimal => room.read_exact(bytes),
+    }
+}
+
+/// What the document with such numbers that these bytes are has at this location, in the memory of other
+/// documents, which an `Err` gives back with what is wrong with the bytes. Where its numbers are whole, it
+/// is found while the document is read; of decimals all of it is read first.
 pub fn read_value_into<'t>(
     alloc: Global,
     room: Room,
     bytes: &'t [u8],
     location: &[OwnedStep],
+    numbers: Numbers,
 ) -> Result<Found<'t>, (Room, DocumentFault)>
     ensures ok { IfOk result
-        (λ f. IsValueAt bytes.now (map owned_step location.now) (flat_found f)) }
-    ensures fault { IfErr result (λ e. IsDocumentFault bytes.now e.1) }
+        (λ f. IsValueAt numbers bytes.now (map owned_step location.now) (flat_found f)) }
+    ensures fault { IfErr result (λ e. IsDocumentFaultIn numbers bytes.now e.1) }
 {
-    match room.read_at(bytes, location) {
+    match value_in_tables(alloc, room, bytes, location, numbers) {
         Ok(found) => Ok(found),
-        Err(room) => match value_by_tree(alloc, bytes, location) {
+        Err(room) => match value_by_tree(alloc, bytes, location, numbers) {
             Ok(Some(flat)) => Ok(Found::Value(flat)),
             Ok(None) => Ok(Found::Nothing(room)),
             Err(fault) => Err((room, fault)),
@@ -91,32 +116,94 @@ pub fn read_value_into<'t>(
     }
 }
 
-/// The document that these bytes are, of which so much is kept as is asked of it, in the memory of other
-/// documents, which an `Err` gives back with what is wrong with the bytes.
+/// What the document with such numbers that these bytes are has at this location, in this memory. An `Err`
+/// gives the memory back and says nothing of the bytes.
+fn value_in_tables<'t>(
+    alloc: Global,
+    room: Room,
+    bytes: &'t [u8],
+    location: &[OwnedStep],
+    numbers: Numbers,
+) -> Result<Found<'t>, Room>
+    ensures { IfOk result
+        (λ f. IsValueAt numbers bytes.now (map owned_step location.now) (flat_found f)) }
+{
+    match numbers {
+        Numbers::Whole => room.read_at(bytes, location),
+        Numbers::Decimal => decimal_value(alloc, room, bytes, location),
+    }
+}
+
+/// What the document with decimals that these bytes are has at this location, of the tables of all of it. An
+/// `Err` gives the memory back and says nothing of the bytes.
+fn decimal_value<'t>(
+    alloc: Global,
+    room: Room,
+    bytes: &'t [u8],
+    location: &[OwnedStep],
+) -> Result<Found<'t>, Room>
+    ensures { IfOk result
+        (λ f. IsValueAt Decimal bytes.now (map owned_step location.now) (flat_found f)) }
+{
+    let flat = room.read_exact(bytes)?;
+    match located(alloc, &flat, location) {
+        Ok(Some(found)) => Ok(Found::Value(found)),
+        Ok(None) => Ok(Found::Nothing(flat.into_room())),
+        Err(_) => Err(flat.into_room()),
+    }
+}
+
+/// The document with such numbers that these bytes are, of which so much is kept as is asked of it, in the
+/// memory of other documents, which an `Err` gives back with what is wrong with the bytes.
 pub fn read_asked<'t>(
     alloc: Global,
     room: Room,
     bytes: &'t [u8],
     asked: &AskedFor,
+    numbers: Numbers,
 ) -> Result<Flat<'t>, (Room, DocumentFault)>
-    ensures ok { IfOk result (IsReadFor asked.now bytes.now) }
-    ensures fault { IfErr result (λ e. IsDocumentFault bytes.now e.1) }
+    ensures ok { IfOk result (IsReadFor numbers asked.now bytes.now) }
+    ensures fault { IfErr result (λ e. IsDocumentFaultIn numbers bytes.now e.1) }
 {
-    match room.read_asked(bytes, asked) {
+    match asked_in_tables(room, bytes, asked, numbers) {
         Ok(flat) => Ok(flat),
-        Err(room) => match read_by_tree(alloc, bytes) {
+        Err(room) => match read_by_tree(alloc, bytes, numbers) {
             Ok(flat) => Ok(flat),
             Err(fault) => Err((room, fault)),
         },
     }
 }
 
-/// The document that `serde_json` reads from these bytes, in tables, else what is wrong with them.
-fn read_by_tree<'t>(alloc: Global, bytes: &[u8]) -> Result<Flat<'t>, DocumentFault>
-    ensures ok { IfOk result (λ f. IsDocument bytes.now (document_in f)) }
-    ensures fault { IfErr result (IsDocumentFault bytes.now) }
+/// The document with such numbers that these bytes are, of which so much is kept as is asked of it, in this
+/// memory. An `Err` gives the memory back and says nothing of the bytes.
+fn asked_in_tables<'t>(
+    room: Room,
+    bytes: &'t [u8],
+    asked: &AskedFor,
+    numbers: Numbers,
+) -> Result<Flat<'t>, Room>
+    ensures { IfOk result (IsReadFor numbers asked.now bytes.now) }
 {
-    let document = Document::parsed(alloc, bytes)?;
+    match numbers {
+        Numbers::Whole => room.read_asked(bytes, asked),
+        Numbers::Decimal => {
+            let flat = room.read_exact(bytes)?;
+            Ok(flat)
+        }
+    }
+}
+
+/// The document with such numbers that a tree is made of from these bytes, in tables, else what is wrong
+/// with them.
+fn read_by_tree<'t>(
+    alloc: Global,
+    bytes: &[u8],
+    numbers: Numbers,
+) -> Result<Flat<'t>, DocumentFault>
+    ensures ok { IfOk result (λ f. IsDocumentIn numbers bytes.now (document_in f)) }
+    ensures fault { IfErr result (IsDocumentFaultIn numbers bytes.now) }
+{
+    let document = Document::parsed(alloc, bytes, numbers)?;
     Ok(Flat::of(alloc, document.value())?)
 }
 
@@ -125,11 +212,12 @@ fn value_by_tree<'t>(
     alloc: Global,
     bytes: &[u8],
     location: &[OwnedStep],
+    numbers: Numbers,
 ) -> Result<Option<Flat<'t>>, DocumentFault>
-    ensures ok { IfOk result (IsValueAt bytes.now (map owned_step location.now)) }
-    ensures fault { IfErr result (IsDocumentFault bytes.now) }
+    ensures ok { IfOk result (IsValueAt numbers bytes.now (map owned_step location.now)) }
+    ensures fault { IfErr result (IsDocumentFaultIn numbers bytes.now) }
 {
-    let document = Document::parsed(alloc, bytes)?;
+    let document = Document::parsed(alloc, bytes, numbers)?;
     match document.value_at(location) {
         Some(value) => Ok(Some(Flat::of(alloc, value)?)),
         None => Ok(None),

@@ -10,6 +10,7 @@
 //! write failed otherwise.
 #![tactic(auto)]
 
+use jp_decimal::Numbers;
 use jp_document::{DocumentFault, OwnedStep, PathFault, parsed_value, read_path};
 use jp_held::Document;
 use jp_iregexp::{PatternFault, read_pattern};
@@ -120,7 +121,7 @@ fn misread(alloc: Global, digits: &str) -> io::Result<String> {
             }
         }
     }
-    let Some(told) = find_misreading(alloc, &bytes)? else {
+    let Some(told) = find_misreading(alloc, &bytes, Numbers::Whole)? else {
         return Ok(String::from_str(alloc, "document")?);
     };
     let path = match &told.path {

@@ -9,7 +9,10 @@ use Rattle.std.specs.Str.{chars}
 use Rattle.std.specs.Str.Lossy.{utf8_valid_len}
 use Rattle.jp_reading.specs.Numbers.{is_digit}
 use Rattle.jp_reading.specs.Texts.{Text}
-use Rattle.jp_document.specs.Document.{HasDefect, not_json, not_whole}
+use Rattle.jp_decimal.specs.declared.numbers.Numbers.{Numbers}
+use Rattle.jp_decimal.specs.declared.numbers.Numbers.TheVariants.{Whole as WholeNumbers, Decimal}
+use Rattle.jp_document.specs.Document.{HasDefect, not_whole}
+use Rattle.jp_exact.specs.Defects.{HasExactDefect, number_range}
 use Rattle.jp_json.specs.declared.misreading.Misreading.{Misreading}
 use Rattle.jp_json.specs.declared.reading.Reading.{Reading}
 use Rattle.jp_json.specs.declared.reading.Stop.TheVariants as stop
@@ -29,6 +32,7 @@ use Rattle.jp_json.specs.declared.state.Part.TheVariants.{Exponent, Sign, Power}
 use Rattle.jp_json.specs.declared.state.State.{State}
 use Rattle.jp_json.specs.declared.state.State.TheVariants as state
 use Rattle.jp_json.specs.Private.Parts.{IsBlamed}
+use Rattle.jp_json.specs.Misreading.{IsBeyondDecimal, IsNoJson, range}
 use Rattle.jp_json.specs.Misreading.{IsNoValue, IsNotWhole, IsPlaceIn, utf8_text, named, syntax, scalar, fraction, cause_of, IsCausedBy, IsMisreading}
 use Rattle.jp_json.specs.Misreading.{IsNoUtf8At, is_gzip, is_utf16}
 use Rattle.jp_json.specs.ViablePrefix.{IsUnexpectedAt}
@@ -189,15 +193,15 @@ stopped-wrong l s t c more is = rw is (unexpected-wrong l s c)
 -- ---- what is told
 
 -- a reason at a byte of the front that is UTF-8
-pub told-so : (bytes text : List ℕ) (m : Misreading) (offset : ℕ) (reason : JsonReason)
+pub told-so : (numbers : Numbers) (bytes text : List ℕ) (m : Misreading) (offset : ℕ) (reason : JsonReason)
     → IsPlaceIn bytes offset
     → text ≡ take (utf8_valid_len bytes) bytes → m.offset ≡ offset → m.reason ≡ reason
     → m.line ≡ line_number (front_of offset (chars text))
     → m.column ≡ column (front_of offset (chars text))
     → is_sentence m.sentence.now ≡ true
-    → IsCausedBy (cause_of reason) bytes offset m.path
-    → IsMisreading bytes m
-told-so bytes text m offset reason there is offset_is reason_is line_is column_is sentence cause = record {
+    → IsCausedBy numbers (cause_of reason) bytes offset m.path
+    → IsMisreading numbers bytes m
+told-so numbers bytes text m offset reason there is offset_is reason_is line_is column_is sentence cause = record {
   place = rw offset_is there;
   cause = rw (offset_is, reason_is) cause;
   line = rw offset_is (line_is ∙ ap (λ t. line_number (front_of offset (chars t))) is);
@@ -227,56 +231,56 @@ front-place bytes text is utf8 =
     place-further bytes text (utf8_valid_len bytes) (length text) is (place-end text utf8)
 
 -- by a test of how the bytes begin
-wrong-cause : {Z : Type 0} (bytes : List ℕ) (place : ℕ) (path : Option (String Z)) (reason other : JsonReason)
+wrong-cause : {Z : Type 0} (numbers : Numbers) (bytes : List ℕ) (place : ℕ) (path : Option (String Z)) (reason other : JsonReason)
     (b : Bool) → is_gzip bytes ≡ b → reason ≡ (if b then Gzip else other)
-    → HasDefect bytes not_json → (u : IsUnexpectedAt 127 (utf8_text bytes) place)
+    → IsNoJson numbers bytes → (u : IsUnexpectedAt 127 (utf8_text bytes) place)
     → IsWrong u.there.character other
-    → IsCausedBy (cause_of reason) bytes place path
-wrong-cause bytes place path reason other true begins is defect u h = rw is (defect, inl u, begins)
-wrong-cause bytes place path reason other false begins is defect u h =
+    → IsCausedBy numbers (cause_of reason) bytes place path
+wrong-cause numbers bytes place path reason other true begins is defect u h = rw is (defect, inl u, begins)
+wrong-cause numbers bytes place path reason other false begins is defect u h =
     elim h.is [
       | inl k ↦ rw (is, k) (defect, inl u)
       | inr k ↦ rw (is, k) (defect, (u, refl))
     ]
 
-pub unexpected-cause : {Z : Type 0} (bytes text : List ℕ) (r : Reading) (reason : JsonReason) (path : Option (String Z))
-    → HasDefect bytes not_json → text ≡ take (utf8_valid_len bytes) bytes
+pub unexpected-cause : {Z : Type 0} (numbers : Numbers) (bytes text : List ℕ) (r : Reading) (reason : JsonReason) (path : Option (String Z))
+    → IsNoJson numbers bytes → text ≡ take (utf8_valid_len bytes) bytes
     → IsReading (chars text) r → r.stop ≡ stop.Unexpected
     → (other : JsonReason) → reason ≡ wrong_reason bytes other
     → other ≡ stop_reason r.stop r.top r.state (chars r.rest.now)
-    → IsCausedBy (cause_of reason) bytes r.offset path
-unexpected-cause bytes text r reason path defect is h stops other reason_is other_is =
+    → IsCausedBy numbers (cause_of reason) bytes r.offset path
+unexpected-cause numbers bytes text r reason path defect is h stops other reason_is other_is =
     let there = unexpected-at (utf8_text bytes) r (read-front bytes text r is h) stops in
     let u = there.0 in
     let whole : other ≡ stop_reason stop.Unexpected r.top r.state (chars r.rest.now)
     = rw stops at other_is in
-    wrong-cause bytes r.offset path reason other (is_gzip bytes) refl reason_is defect u
+    wrong-cause numbers bytes r.offset path reason other (is_gzip bytes) refl reason_is defect u
     (subst (λ x. IsWrong u.there.character x) (sym whole)
     (stopped-wrong r.top r.state (chars r.rest.now) u.there.character u.there.after there.1))
 
-pub too_deep-cause : {Z : Type 0} (bytes text : List ℕ) (r : Reading) (path : Option (String Z))
-    → HasDefect bytes not_json → text ≡ take (utf8_valid_len bytes) bytes
+pub too_deep-cause : {Z : Type 0} (numbers : Numbers) (bytes text : List ℕ) (r : Reading) (path : Option (String Z))
+    → IsNoJson numbers bytes → text ≡ take (utf8_valid_len bytes) bytes
     → IsReading (chars text) r → r.stop ≡ stop.TooDeep
-    → IsCausedBy (cause_of TooManyLevels) bytes r.offset path
-too_deep-cause bytes text r path defect is h stops =
+    → IsCausedBy numbers (cause_of TooManyLevels) bytes r.offset path
+too_deep-cause numbers bytes text r path defect is h stops =
     (defect, too_deep-at (utf8_text bytes) r (read-front bytes text r is h) stops)
 
-pub unfinished-cause : {Z : Type 0} (bytes text : List ℕ) (r : Reading) (reason : JsonReason) (path : Option (String Z))
-    → HasDefect bytes not_json → text ≡ take (utf8_valid_len bytes) bytes → IsUtf8 bytes
+pub unfinished-cause : {Z : Type 0} (numbers : Numbers) (bytes text : List ℕ) (r : Reading) (reason : JsonReason) (path : Option (String Z))
+    → IsNoJson numbers bytes → text ≡ take (utf8_valid_len bytes) bytes → IsUtf8 bytes
     → IsReading (chars text) r → r.stop ≡ stop.Unfinished
     → reason ≡ stop_reason r.stop r.top r.state (chars r.rest.now)
-    → IsCausedBy (cause_of reason) bytes r.offset path
-unfinished-cause bytes text r reason path defect is utf8 h stops reason_is =
+    → IsCausedBy numbers (cause_of reason) bytes r.offset path
+unfinished-cause numbers bytes text r reason path defect is utf8 h stops reason_is =
     let whole : reason ≡ end_reason r.top r.state = rw stops at reason_is in
     let kind : cause_of reason ≡ syntax = ap cause_of whole ∙ (end-syntax r.top r.state).is in
     rw kind (defect, inr (utf8, unfinished-at (utf8_text bytes) r (read-front bytes text r is h) stops))
 
-pub whole-cause : {Z : Type 0} (bytes text : List ℕ) (r : Reading) (reason : JsonReason) (path : Option (String Z))
-    → HasDefect bytes not_json → text ≡ take (utf8_valid_len bytes) bytes → IsUtf8 bytes
+pub whole-cause : {Z : Type 0} (numbers : Numbers) (bytes text : List ℕ) (r : Reading) (reason : JsonReason) (path : Option (String Z))
+    → IsNoJson numbers bytes → text ≡ take (utf8_valid_len bytes) bytes → IsUtf8 bytes
     → IsReading (chars text) r → r.stop ≡ stop.Whole
-    → (offset : ℕ) → IsBlamed scalar IsNoValue bytes offset reason
-    → IsCausedBy (cause_of reason) bytes offset path
-whole-cause bytes text r reason path defect is utf8 h stops offset blame =
+    → (offset : ℕ) → IsBlamed scalar (IsNoValue numbers) bytes offset reason
+    → IsCausedBy numbers (cause_of reason) bytes offset path
+whole-cause numbers bytes text r reason path defect is utf8 h stops offset blame =
     elim blame [
       | inl b ↦
           rw b.0
@@ -287,24 +291,24 @@ whole-cause bytes text r reason path defect is utf8 h stops offset blame =
     ]
 
 -- by a test of how the bytes begin
-encoded-cause : {Z : Type 0} (bytes : List ℕ) (place : ℕ) (path : Option (String Z)) (reason : JsonReason)
+encoded-cause : {Z : Type 0} (numbers : Numbers) (bytes : List ℕ) (place : ℕ) (path : Option (String Z)) (reason : JsonReason)
     (b : Bool) → is_utf16 bytes ≡ b → reason ≡ (if b then Utf16 else NotUtf8)
-    → HasDefect bytes not_json → IsNoUtf8At bytes place
-    → IsCausedBy (cause_of reason) bytes place path
-encoded-cause bytes place path reason true begins is defect there = rw is (defect, there, begins)
-encoded-cause bytes place path reason false begins is defect there = rw is (defect, there)
+    → IsNoJson numbers bytes → IsNoUtf8At bytes place
+    → IsCausedBy numbers (cause_of reason) bytes place path
+encoded-cause numbers bytes place path reason true begins is defect there = rw is (defect, there, begins)
+encoded-cause numbers bytes place path reason false begins is defect there = rw is (defect, there)
 
 -- the bytes are no UTF-8, and what is before is read whole, or as far as it goes
-pub encoding-cause : {Z : Type 0} (bytes text : List ℕ) (r : Reading) (offset : ℕ) (reason : JsonReason)
+pub encoding-cause : {Z : Type 0} (numbers : Numbers) (bytes text : List ℕ) (r : Reading) (offset : ℕ) (reason : JsonReason)
     (path : Option (String Z))
-    → HasDefect bytes not_json → text ≡ take (utf8_valid_len bytes) bytes → (IsUtf8 bytes → ⊥)
+    → IsNoJson numbers bytes → text ≡ take (utf8_valid_len bytes) bytes → (IsUtf8 bytes → ⊥)
     → IsReading (chars text) r → (r.stop ≡ stop.Unfinished) ⊎ (r.stop ≡ stop.Whole)
     → offset ≡ length text
     → reason ≡ encoding_reason bytes
-    → IsCausedBy (cause_of reason) bytes offset path
-encoding-cause bytes text r offset reason path defect is none h stops offset_is reason_is =
+    → IsCausedBy numbers (cause_of reason) bytes offset path
+encoding-cause numbers bytes text r offset reason path defect is none h stops offset_is reason_is =
     let front = read-front bytes text r is h in
-    encoded-cause bytes offset path reason (is_utf16 bytes) refl reason_is defect
+    encoded-cause numbers bytes offset path reason (is_utf16 bytes) refl reason_is defect
     (record {
       none = none;
       place_is = offset_is ∙ ap length is ∙ length-take (utf8_valid_len bytes) bytes ∙ min_eq;
@@ -321,8 +325,18 @@ encoding-cause bytes text r offset reason path defect is none h stops offset_is 
 pub fraction-cause : {Z : Type 0} (bytes : List ℕ) (reason : JsonReason) (offset : ℕ) (p : String Z) (path : Option (String Z))
     → HasDefect bytes (not_whole (string_bytes p)) → path ≡ Some p
     → IsBlamed fraction IsNotWhole bytes offset reason
-    → IsCausedBy (cause_of reason) bytes offset path
+    → IsCausedBy WholeNumbers (cause_of reason) bytes offset path
 fraction-cause bytes reason offset p path defect is blame =
+    elim blame [
+      | inl b ↦ rw (b.0, is) (defect, b.1)
+      | inr e ↦ rw (e, is) (inr defect)
+    ]
+
+pub range-cause : {Z : Type 0} (bytes : List ℕ) (reason : JsonReason) (offset : ℕ) (p : String Z) (path : Option (String Z))
+    → HasExactDefect bytes (number_range (string_bytes p)) → path ≡ Some p
+    → IsBlamed range IsBeyondDecimal bytes offset reason
+    → IsCausedBy Decimal (cause_of reason) bytes offset path
+range-cause bytes reason offset p path defect is blame =
     elim blame [
       | inl b ↦ rw (b.0, is) (defect, b.1)
       | inr e ↦ rw (e, is) (inr defect)

@@ -6,12 +6,16 @@ use Rattle.jp_reading.specs.Numbers.{is_digit}
 use Rattle.std.specs.Str.{chars}
 use Rattle.std.specs.Str.Lossy.{utf8_valid_len}
 use Rattle.jp_reading.specs.Texts.{Text}
+use Rattle.jp_decimal.specs.declared.numbers.Numbers.{Numbers}
+use Rattle.jp_decimal.specs.declared.numbers.Numbers.TheVariants.{Whole, Decimal}
 use Rattle.jp_document.specs.Document.{HasDefect, not_json, not_whole, list_too_long}
+use Rattle.jp_exact.specs.Defects as exact
+use Rattle.jp_exact.specs.Defects.{HasExactDefect}
 use Rattle.jp_json.specs.declared.misreading.Misreading.{Misreading}
 use Rattle.jp_json.specs.declared.reason.JsonReason.{JsonReason}
 use Rattle.jp_json.specs.declared.reason.JsonReason.TheVariants.{NotUtf8, TooManyLevels, LoneSurrogate}
 use Rattle.jp_json.specs.declared.reason.JsonReason.TheVariants.{BeyondFloat, HasFraction, NegativeZero}
-use Rattle.jp_json.specs.declared.reason.JsonReason.TheVariants.{OutOfRange, ListTooLong, Unreadable}
+use Rattle.jp_json.specs.declared.reason.JsonReason.TheVariants.{OutOfRange, BeyondDecimal, ListTooLong, Unreadable}
 use Rattle.jp_json.specs.declared.reason.JsonReason.TheVariants.{Utf16, Gzip, ByteOrderMark, RecordSeparator}
 use Rattle.jp_json.specs.declared.reason.JsonReason.TheVariants.{NullCharacter, NoBreakSpace}
 use Rattle.jp_json.specs.Grammar.{json_text}
@@ -36,7 +40,8 @@ is_utf16 _ = false
 
 -- What kind of reason: the bytes are no UTF-8, or begin as UTF-16 does besides; they are no JSON text, or
 -- that character stands where they are none, or they begin as gzip's do besides; they nest too deep; a string
--- or a number in them stands for no value; a number is not whole; a list is too long; or another.
+-- or a number in them stands for no value; a number is not whole; a number is too much for a decimal; a
+-- list is too long; or another.
 pub data Cause : Type 0 where
   encoding : Cause
   utf16 : Cause
@@ -46,6 +51,7 @@ pub data Cause : Type 0 where
   levels : Cause
   scalar : Cause
   fraction : Cause
+  range : Cause
   long_list : Cause
   other : Cause
 
@@ -63,6 +69,7 @@ cause_of BeyondFloat = scalar
 cause_of HasFraction = fraction
 cause_of NegativeZero = fraction
 cause_of OutOfRange = fraction
+cause_of BeyondDecimal = range
 cause_of ListTooLong = long_list
 cause_of Unreadable = other
 cause_of _ = syntax
@@ -94,12 +101,17 @@ abbrev pub begins_scalar : List ℕ → Bool
 begins_scalar [] = false
 begins_scalar (b ∷ bs) = b == double_quote || b == minus || is_digit b
 
--- a string or a number by the grammar, which alone holds no value
-pub record IsNoValue (part : List ℕ) : Type 0 where
+-- the bytes hold no JSON value, with such numbers
+abbrev pub IsNoJson : Numbers → List ℕ → Type 0
+IsNoJson Whole bytes = HasDefect bytes not_json
+IsNoJson Decimal bytes = HasExactDefect bytes exact.not_json
+
+-- a string or a number by the grammar, which alone holds no value with such numbers
+pub record IsNoValue (numbers : Numbers) (part : List ℕ) : Type 0 where
   pub begins : begins_scalar part ≡ true
   pub utf8 : IsUtf8 part
   pub text : json_text 127 (chars part)
-  pub defect : HasDefect part not_json
+  pub defect : IsNoJson numbers part
 
 -- a number that is not whole: its path in itself is that of the root
 abbrev pub IsNotWhole : List ℕ → Type 0
@@ -110,38 +122,68 @@ abbrev pub IsFractionPath : {Z : Type 0} → List ℕ → Option (String Z) → 
 IsFractionPath bytes None = ⊥
 IsFractionPath bytes (Some path) = HasDefect bytes (not_whole (string_bytes path))
 
--- the bytes are no document, by a reason of that kind, at that byte
-abbrev pub IsCausedBy : {Z : Type 0} → Cause → List ℕ → ℕ → Option (String Z) → Type 0
-IsCausedBy encoding bytes place path = HasDefect bytes not_json × IsNoUtf8At bytes place
-IsCausedBy utf16 bytes place path =
-    HasDefect bytes not_json × IsNoUtf8At bytes place × (is_utf16 bytes ≡ true)
-IsCausedBy syntax bytes place path = HasDefect bytes not_json × IsWrongAt bytes place
-IsCausedBy (named c) bytes place path = HasDefect bytes not_json
+-- a number that is too much for a decimal: its path in itself is that of the root
+abbrev pub IsBeyondDecimal : List ℕ → Type 0
+IsBeyondDecimal part = HasExactDefect part (exact.number_range (codes "$"))
+
+-- the path of the first number that is too much for a decimal
+abbrev pub IsRangePath : {Z : Type 0} → List ℕ → Option (String Z) → Type 0
+IsRangePath bytes None = ⊥
+IsRangePath bytes (Some path) = HasExactDefect bytes (exact.number_range (string_bytes path))
+
+-- the path of the first number that is none of such numbers
+abbrev pub IsNumberPath : {Z : Type 0} → Numbers → List ℕ → Option (String Z) → Type 0
+IsNumberPath Whole bytes path = IsFractionPath bytes path
+IsNumberPath Decimal bytes path = IsRangePath bytes path
+
+-- a number is not whole, at that byte; of decimals that is no reason
+abbrev pub IsFractionAt : {Z : Type 0} → Numbers → List ℕ → ℕ → Option (String Z) → Type 0
+IsFractionAt Whole bytes place path = IsFractionPath bytes path × IsPartAt bytes place IsNotWhole
+IsFractionAt Decimal bytes place path = ⊥
+
+-- a number is too much for a decimal, at that byte; of whole numbers that is no reason
+abbrev pub IsRangeAt : {Z : Type 0} → Numbers → List ℕ → ℕ → Option (String Z) → Type 0
+IsRangeAt Whole bytes place path = ⊥
+IsRangeAt Decimal bytes place path = IsRangePath bytes path × IsPartAt bytes place IsBeyondDecimal
+
+-- every number is one of such numbers, and some list is too long
+abbrev pub IsLongList : Numbers → List ℕ → Type 0
+IsLongList Whole bytes = HasDefect bytes list_too_long
+IsLongList Decimal bytes = HasExactDefect bytes exact.list_too_long
+
+-- the bytes are no document with such numbers, by a reason of that kind, at that byte
+abbrev pub IsCausedBy : {Z : Type 0} → Numbers → Cause → List ℕ → ℕ → Option (String Z) → Type 0
+IsCausedBy numbers encoding bytes place path = IsNoJson numbers bytes × IsNoUtf8At bytes place
+IsCausedBy numbers utf16 bytes place path =
+    IsNoJson numbers bytes × IsNoUtf8At bytes place × (is_utf16 bytes ≡ true)
+IsCausedBy numbers syntax bytes place path = IsNoJson numbers bytes × IsWrongAt bytes place
+IsCausedBy numbers (named c) bytes place path = IsNoJson numbers bytes
     × ((u : IsUnexpectedAt 127 (utf8_text bytes) place) × (u.there.character ≡ c))
-IsCausedBy gzip bytes place path =
-    HasDefect bytes not_json × IsWrongAt bytes place × (is_gzip bytes ≡ true)
-IsCausedBy levels bytes place path =
-    HasDefect bytes not_json × IsTooDeepAt 127 (utf8_text bytes) place
-IsCausedBy scalar bytes place path =
-    HasDefect bytes not_json
+IsCausedBy numbers gzip bytes place path =
+    IsNoJson numbers bytes × IsWrongAt bytes place × (is_gzip bytes ≡ true)
+IsCausedBy numbers levels bytes place path =
+    IsNoJson numbers bytes × IsTooDeepAt 127 (utf8_text bytes) place
+IsCausedBy numbers scalar bytes place path =
+    IsNoJson numbers bytes
     × IsUtf8 bytes
     × json_text 127 (utf8_text bytes)
-    × IsPartAt bytes place IsNoValue
-IsCausedBy fraction bytes place path = IsFractionPath bytes path × IsPartAt bytes place IsNotWhole
-IsCausedBy long_list bytes place path = HasDefect bytes list_too_long
-IsCausedBy other bytes place path =
-    (HasDefect bytes not_json × IsUtf8 bytes × json_text 127 (utf8_text bytes))
-    ⊎ IsFractionPath bytes path
+    × IsPartAt bytes place (IsNoValue numbers)
+IsCausedBy numbers fraction bytes place path = IsFractionAt numbers bytes place path
+IsCausedBy numbers range bytes place path = IsRangeAt numbers bytes place path
+IsCausedBy numbers long_list bytes place path = IsLongList numbers bytes
+IsCausedBy numbers other bytes place path =
+    (IsNoJson numbers bytes × IsUtf8 bytes × json_text 127 (utf8_text bytes))
+    ⊎ IsNumberPath numbers bytes path
 
 -- the byte is one of the bytes, or their end, and what is before it is UTF-8: no character is cut there
 pub record IsPlaceIn (bytes : List ℕ) (place : ℕ) : Type 0 where
   pub within : place ≤ length bytes
   pub before : IsUtf8 (take place bytes)
 
--- the bytes are misread so, and a sentence says it
-pub record IsMisreading (bytes : List ℕ) (m : Misreading) : Type 0 where
+-- the bytes, which are to be a document with such numbers, are misread so, and a sentence says it
+pub record IsMisreading (numbers : Numbers) (bytes : List ℕ) (m : Misreading) : Type 0 where
   pub place : IsPlaceIn bytes m.offset
-  pub cause : IsCausedBy (cause_of m.reason) bytes m.offset m.path
+  pub cause : IsCausedBy numbers (cause_of m.reason) bytes m.offset m.path
   pub line : m.line ≡ line_number (front_of m.offset (utf8_text bytes))
   pub column : m.column ≡ column (front_of m.offset (utf8_text bytes))
   pub sentence : is_sentence m.sentence.now ≡ true

@@ -6,7 +6,7 @@ use Rattle.jp_json.specs.declared.reason.JsonReason.TheVariants.{EndInWord, EndI
 use Rattle.jp_json.specs.declared.reason.JsonReason.TheVariants.{MissingValue, MissingName, MissingColon, MissingComma, StrayColon}
 use Rattle.jp_json.specs.declared.reason.JsonReason.TheVariants.{TrailingComma, WrongBracket, SingleQuote, UnquotedName, Comment}
 use Rattle.jp_json.specs.declared.reason.JsonReason.TheVariants.{WrongWord, WrongNumber, LeadingZero, ControlCharacter, WrongEscape}
-use Rattle.jp_json.specs.declared.reason.JsonReason.TheVariants.{LoneSurrogate, BeyondFloat, HasFraction, NegativeZero, OutOfRange}
+use Rattle.jp_json.specs.declared.reason.JsonReason.TheVariants.{LoneSurrogate, BeyondFloat, HasFraction, NegativeZero, OutOfRange, BeyondDecimal}
 use Rattle.jp_json.specs.declared.reason.JsonReason.TheVariants.{ListTooLong, Unreadable, Unexpected}
 use Rattle.jp_json.specs.declared.reason.JsonReason.TheVariants.{Utf16, Gzip, RecordSeparator, NullCharacter, NoBreakSpace}
 
@@ -47,6 +47,7 @@ name_of BeyondFloat = codes "BeyondFloat"
 name_of HasFraction = codes "HasFraction"
 name_of NegativeZero = codes "NegativeZero"
 name_of OutOfRange = codes "OutOfRange"
+name_of BeyondDecimal = codes "BeyondDecimal"
 name_of ListTooLong = codes "ListTooLong"
 name_of Unreadable = codes "Unreadable"
 name_of Unexpected = codes "Unexpected"

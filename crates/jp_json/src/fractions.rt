@@ -1,14 +1,16 @@
-//! The first number that is not whole.
+//! The first number that is not whole, or too much for a decimal.
 
 ghost use Rattle.std.specs.Prelude.{◌≡◌, ◌≤◌, ◌<◌, IfOk, IfSome, IsUtf8, get_or, length};
 ghost use Rattle.std.specs.Prelude.{true};
-ghost use Rattle.jp_json.specs.Misreading.{IsNotWhole, IsPlaceIn, cause_of, fraction};
+ghost use Rattle.jp_json.specs.Misreading.{IsBeyondDecimal, IsNotWhole, IsPlaceIn, cause_of};
+ghost use Rattle.jp_json.specs.Misreading.{fraction, range};
 ghost use Rattle.jp_json.specs.Private.Parts.{IsBlamed};
 ghost use Rattle.jp_json.specs.Private.Reasons.{fraction_reason, has_fraction, is_zero};
 
 use crate::reason::JsonReason;
 use crate::scalars::{Scalar, scalar_at};
 use jp_document::{DocumentFault, Json, OwnedStep, PathFault, parsed_value, read_path};
+use jp_exact::exact_value;
 use std::alloc::{AllocError, Global};
 
 /// An array or an object that is open.
@@ -195,6 +197,31 @@ fn is_not_whole(alloc: Global, text: &[u8]) -> Result<bool, AllocError>
     }
 }
 
+/// Whether these bytes alone are a number that is too much for a decimal.
+fn is_beyond(alloc: Global, text: &[u8]) -> Result<bool, AllocError>
+    ensures { IfOk result (λ b. b ≡ true → IsBeyondDecimal text.now) }
+{
+    match exact_value(alloc, text) {
+        Err(DocumentFault::NumberRange(path)) => Ok(path.as_str() == "$"),
+        Err(DocumentFault::NoMemory) => Err(AllocError),
+        _ => Ok(false),
+    }
+}
+
+/// The number that has that path, None where none is found.
+fn number_named(alloc: Global, text: &[u8], path: &str) -> Result<Option<Scalar>, AllocError>
+    ensures within { IfOk result
+        (λ o. IfSome o (λ s. (s.start ≤ s.end) × (s.end ≤ length text.now))) }
+    ensures ascii { IfOk result (λ o. IfSome o (λ s.
+        (s.start < length text.now) × (get_or text.now s.start 0 < 128))) }
+{
+    match read_path(alloc, path) {
+        Ok(location) => number_at(alloc, text, location.steps()),
+        Err(PathFault::NoMemory) => Err(AllocError),
+        Err(_) => Ok(None),
+    }
+}
+
 /// The place of the first number that is not whole, which has that path, and why it is not.
 pub(crate) fn fraction_at(
     alloc: Global,
@@ -204,17 +231,32 @@ pub(crate) fn fraction_at(
     ensures blamed { IfOk result (λ x. IsBlamed fraction IsNotWhole text.now x.0 x.1) }
     ensures place { IfOk result (λ x. IsUtf8 text.now → IsPlaceIn text.now x.0) }
 {
-    let location = match read_path(alloc, path) {
-        Ok(location) => location,
-        Err(PathFault::NoMemory) => return Err(AllocError),
-        Err(_) => return Ok((0, JsonReason::Unreadable)),
-    };
-    let Some(number) = number_at(alloc, text, location.steps())? else {
+    let Some(number) = number_named(alloc, text, path)? else {
         return Ok((0, JsonReason::Unreadable));
     };
     let part = &text[number.start..number.end];
     if is_not_whole(alloc, part)? {
         Ok((number.start, fraction_reason(part)))
+    } else {
+        Ok((0, JsonReason::Unreadable))
+    }
+}
+
+/// The place of the first number that is too much for a decimal, which has that path, and that reason.
+pub(crate) fn range_at(
+    alloc: Global,
+    text: &[u8],
+    path: &str,
+) -> Result<(usize, JsonReason), AllocError>
+    ensures blamed { IfOk result (λ x. IsBlamed range IsBeyondDecimal text.now x.0 x.1) }
+    ensures place { IfOk result (λ x. IsUtf8 text.now → IsPlaceIn text.now x.0) }
+{
+    let Some(number) = number_named(alloc, text, path)? else {
+        return Ok((0, JsonReason::Unreadable));
+    };
+    let part = &text[number.start..number.end];
+    if is_beyond(alloc, part)? {
+        Ok((number.start, JsonReason::BeyondDecimal))
     } else {
         Ok((0, JsonReason::Unreadable))
     }

@@ -2,20 +2,25 @@
 
 ghost use Rattle.std.specs.Prelude.{◌≡◌, true, IfOk, IfNone, IfSome, None, string_bytes};
 ghost use Rattle.std.specs.Str.{chars};
-ghost use Rattle.jp_document.specs.Document.{IsDocument, IsDocumentFault, HasDefect, not_json, not_whole};
+ghost use Rattle.jp_decimal.specs.declared.numbers.Numbers.TheVariants.{Decimal, Whole};
+ghost use Rattle.jp_document.specs.Document.{HasDefect, not_whole};
+ghost use Rattle.jp_document.specs.Exact.{IsDocumentIn};
+ghost use Rattle.jp_exact.specs.Defects.{HasExactDefect, IsDocumentFaultIn, number_range};
 ghost use Rattle.jp_document.specs.Value.{Value};
-ghost use Rattle.jp_json.specs.Misreading.{IsMisreading};
+ghost use Rattle.jp_json.specs.Misreading.{IsMisreading, IsNoJson};
 ghost use Rattle.jp_json.specs.Place.{front_of, line_number, column};
 ghost use Rattle.jp_reading.specs.Sentences.{is_sentence};
 
-use crate::fractions::fraction_at;
+use crate::fractions::{fraction_at, range_at};
 use crate::place::line_and_column;
 use crate::reading::{Stop, read};
 use crate::reason::JsonReason;
 use crate::reasons::{encoding_reason, stop_reason, wrong_reason};
 use crate::scalars::refused_scalar;
 use crate::utf8::utf8_front;
-use jp_document::{DocumentFault, parsed_value};
+use jp_decimal::Numbers;
+use jp_document::DocumentFault;
+use jp_exact::read_value;
 use std::alloc::{AllocError, Global};
 use std::fmt;
 
@@ -31,8 +36,8 @@ pub struct Misreading {
     pub reason: JsonReason,
     /// The sentence for the reason: one line of printable characters, in ASCII.
     pub sentence: &'static str,
-    /// The normalized path of a number that is not whole (RFC 9535 section 2.7); None for other
-    /// reasons.
+    /// The normalized path of a number that is not whole, or too much for a decimal (RFC 9535 section 2.7);
+    /// None for other reasons.
     pub path: Option<String>,
 }
 
@@ -74,10 +79,10 @@ fn told(text: &str, offset: usize, reason: JsonReason, path: Option<String>) -> 
     }
 }
 
-/// Why bytes hold no JSON value.
-fn not_json(alloc: Global, bytes: &[u8]) -> Result<Misreading, AllocError>
-    requires { HasDefect bytes.now not_json }
-    ensures { IfOk result (IsMisreading bytes.now) }
+/// Why bytes hold no JSON value with such numbers.
+fn not_json(alloc: Global, bytes: &[u8], numbers: Numbers) -> Result<Misreading, AllocError>
+    requires { IsNoJson numbers bytes.now }
+    ensures { IfOk result (IsMisreading numbers bytes.now) }
 {
     let (text, is_utf8) = utf8_front(bytes);
     let reading = read(alloc, text)?;
@@ -89,7 +94,7 @@ fn not_json(alloc: Global, bytes: &[u8]) -> Result<Misreading, AllocError>
         Stop::TooDeep => Ok(told(text, reading.offset, JsonReason::TooManyLevels, None)),
         Stop::Unfinished if is_utf8 => Ok(told(text, reading.offset, stop_reason(reading), None)),
         Stop::Whole if is_utf8 => {
-            let (offset, reason) = refused_scalar(alloc, bytes)?;
+            let (offset, reason) = refused_scalar(alloc, bytes, numbers)?;
             Ok(told(text, offset, reason, None))
         }
         Stop::Unfinished => Ok(told(text, text.len(), encoding_reason(bytes), None)),
@@ -100,29 +105,43 @@ fn not_json(alloc: Global, bytes: &[u8]) -> Result<Misreading, AllocError>
 /// The first number that is not whole.
 fn not_whole(alloc: Global, bytes: &[u8], path: String) -> Result<Misreading, AllocError>
     requires { HasDefect bytes.now (not_whole (string_bytes path)) }
-    ensures { IfOk result (IsMisreading bytes.now) }
+    ensures { IfOk result (IsMisreading Whole bytes.now) }
 {
     let (text, _) = utf8_front(bytes);
     let (offset, reason) = fraction_at(alloc, bytes, path.as_str())?;
     Ok(told(text, offset, reason, Some(path)))
 }
 
-/// Why and where bytes are no document, which have that fault.
+/// The first number that is too much for a decimal.
+fn out_of_range(alloc: Global, bytes: &[u8], path: String) -> Result<Misreading, AllocError>
+    requires { HasExactDefect bytes.now (number_range (string_bytes path)) }
+    ensures { IfOk result (IsMisreading Decimal bytes.now) }
+{
+    let (text, _) = utf8_front(bytes);
+    let (offset, reason) = range_at(alloc, bytes, path.as_str())?;
+    Ok(told(text, offset, reason, Some(path)))
+}
+
+/// Why and where bytes are no document with such numbers, which have that fault.
 ///
 /// The only error is that memory ran out, as it has where the fault is `NoMemory`.
 pub fn misreading_of(
     alloc: Global,
     bytes: &[u8],
+    numbers: Numbers,
     fault: &DocumentFault,
 ) -> Result<Misreading, AllocError>
-    requires { IsDocumentFault bytes.now fault.now }
-    ensures { IfOk result (IsMisreading bytes.now) }
+    requires { IsDocumentFaultIn numbers bytes.now fault.now }
+    ensures { IfOk result (IsMisreading numbers bytes.now) }
 {
     match fault {
         DocumentFault::NoMemory => Err(AllocError),
-        DocumentFault::NotJson => not_json(alloc, bytes),
+        DocumentFault::NotJson => not_json(alloc, bytes, numbers),
         DocumentFault::NotWhole(path) => {
             not_whole(alloc, bytes, String::from_str(alloc, path.as_str())?)
+        }
+        DocumentFault::NumberRange(path) => {
+            out_of_range(alloc, bytes, String::from_str(alloc, path.as_str())?)
         }
         DocumentFault::ListTooLong => {
             let (text, _) = utf8_front(bytes);
@@ -131,15 +150,19 @@ pub fn misreading_of(
     }
 }
 
-/// Why bytes are no document, and where; None where they are one.
+/// Why bytes are no document with such numbers, and where; None where they are one.
 ///
 /// The only error is that memory ran out.
-pub fn find_misreading(alloc: Global, bytes: &[u8]) -> Result<Option<Misreading>, AllocError>
-    ensures none { IfOk result (λ m. IfNone m ((v : Value) × IsDocument bytes.now v)) }
-    ensures some { IfOk result (λ m. IfSome m (IsMisreading bytes.now)) }
+pub fn find_misreading(
+    alloc: Global,
+    bytes: &[u8],
+    numbers: Numbers,
+) -> Result<Option<Misreading>, AllocError>
+    ensures none { IfOk result (λ m. IfNone m ((v : Value) × IsDocumentIn numbers bytes.now v)) }
+    ensures some { IfOk result (λ m. IfSome m (IsMisreading numbers bytes.now)) }
 {
-    match parsed_value(alloc, bytes) {
+    match read_value(alloc, bytes, numbers) {
         Ok(_) => Ok(None),
-        Err(fault) => Ok(Some(misreading_of(alloc, bytes, &fault)?)),
+        Err(fault) => Ok(Some(misreading_of(alloc, bytes, numbers, &fault)?)),
     }
 }

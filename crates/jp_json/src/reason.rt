@@ -77,6 +77,9 @@ pub enum JsonReason {
     NegativeZero,
     /// A whole number outside -(2^63) to (2^64)-1.
     OutOfRange,
+    /// A number that is too much for a decimal: more than 38 digits from the first to the last that is not
+    /// 0, or a power of ten for the last of these that is not from -1,000,000 to 1,000,000.
+    BeyondDecimal,
     /// Some list is too long.
     ListTooLong,
     /// Another reason, which no known bytes have.
@@ -146,6 +149,9 @@ impl JsonReason {
             }
             JsonReason::NegativeZero => "-0 is no whole number of 64 bits.",
             JsonReason::OutOfRange => "This number is outside -(2^63) to (2^64)-1.",
+            JsonReason::BeyondDecimal => {
+                "This number has more than 38 digits, or an exponent beyond 1,000,000."
+            }
             JsonReason::ListTooLong => "A list has more than (2^53)-1 items.",
             JsonReason::Unreadable => "This is no document.",
             JsonReason::Unexpected => "No value begins so.",
@@ -192,6 +198,7 @@ impl JsonReason {
             JsonReason::HasFraction => "HasFraction",
             JsonReason::NegativeZero => "NegativeZero",
             JsonReason::OutOfRange => "OutOfRange",
+            JsonReason::BeyondDecimal => "BeyondDecimal",
             JsonReason::ListTooLong => "ListTooLong",
             JsonReason::Unreadable => "Unreadable",
             JsonReason::Unexpected => "Unexpected",

@@ -1,18 +1,19 @@
 //! The strings and numbers of a JSON text.
 
 ghost use Rattle.std.specs.Prelude.{◌≡◌, ◌<◌, ◌≤◌, ◌+◌, true, IfOk, IfSome, get_or, length};
-ghost use Rattle.jp_document.specs.Document.{HasDefect, not_json};
 ghost use Rattle.std.specs.Prelude.{IsUtf8};
 ghost use Rattle.std.specs.Str.{chars};
 ghost use Rattle.jp_reading.specs.Characters.{double_quote};
 ghost use Rattle.jp_json.specs.Grammar.{json_text};
-ghost use Rattle.jp_json.specs.Misreading.{IsNoValue, IsPlaceIn, begins_scalar, cause_of, scalar};
+ghost use Rattle.jp_json.specs.Misreading.{IsNoJson, IsNoValue, IsPlaceIn, begins_scalar, cause_of, scalar};
 ghost use Rattle.jp_json.specs.Private.Parts.{IsBlamed};
 ghost use Rattle.jp_json.specs.Private.Strings.{IsStringEnd};
 
 use crate::reading::{Stop, read};
 use crate::reason::JsonReason;
-use jp_document::{DocumentFault, parsed_value};
+use jp_decimal::Numbers;
+use jp_document::DocumentFault;
+use jp_exact::read_value;
 use std::alloc::{AllocError, Global};
 use std::str::from_utf8;
 
@@ -98,23 +99,23 @@ fn is_text(alloc: Global, part: &[u8]) -> Result<bool, AllocError>
     }
 }
 
-/// Whether the bytes hold no JSON value.
-fn is_not_json(alloc: Global, part: &[u8]) -> Result<bool, AllocError>
-    ensures { IfOk result (λ b. b ≡ true → HasDefect part.now not_json) }
+/// Whether the bytes hold no JSON value with such numbers.
+fn is_not_json(alloc: Global, part: &[u8], numbers: Numbers) -> Result<bool, AllocError>
+    ensures { IfOk result (λ b. b ≡ true → IsNoJson numbers part.now) }
 {
-    match parsed_value(alloc, part) {
+    match read_value(alloc, part, numbers) {
         Err(DocumentFault::NotJson) => Ok(true),
         Err(DocumentFault::NoMemory) => Err(AllocError),
         _ => Ok(false),
     }
 }
 
-/// Whether the bytes are a string or a number that alone holds no value.
-fn is_no_value(alloc: Global, part: &[u8]) -> Result<bool, AllocError>
-    ensures { IfOk result (λ b. b ≡ true → IsNoValue part.now) }
+/// Whether the bytes are a string or a number that alone holds no value with such numbers.
+fn is_no_value(alloc: Global, part: &[u8], numbers: Numbers) -> Result<bool, AllocError>
+    ensures { IfOk result (λ b. b ≡ true → IsNoValue numbers part.now) }
 {
     let is_text = is_text(alloc, part)?;
-    let is_not_json = is_not_json(alloc, part)?;
+    let is_not_json = is_not_json(alloc, part, numbers)?;
     Ok(begins_scalar(part) && is_text && is_not_json)
 }
 
@@ -132,10 +133,15 @@ fn is_suspect(part: &[u8]) -> bool {
         }
 }
 
-/// Of a JSON text that holds no value the first string or number that is to blame, and why.
-pub(crate) fn refused_scalar(alloc: Global, text: &[u8]) -> Result<(usize, JsonReason), AllocError>
+/// Of a JSON text that holds no value with such numbers the first string or number that is to blame, and
+/// why.
+pub(crate) fn refused_scalar(
+    alloc: Global,
+    text: &[u8],
+    numbers: Numbers,
+) -> Result<(usize, JsonReason), AllocError>
     ensures blamed { IfOk result
-        (λ x. IsBlamed scalar IsNoValue text.now x.0 x.1) }
+        (λ x. IsBlamed scalar (IsNoValue numbers) text.now x.0 x.1) }
     ensures place { IfOk result (λ x. IsUtf8 text.now → IsPlaceIn text.now x.0) }
 {
     let mut at = 0;
@@ -143,7 +149,7 @@ pub(crate) fn refused_scalar(alloc: Global, text: &[u8]) -> Result<(usize, JsonR
         match scalar_at(text, at) {
             Some(found) => {
                 let part = &text[at..found.end];
-                if is_suspect(part) && is_no_value(alloc, part)? {
+                if is_suspect(part) && is_no_value(alloc, part, numbers)? {
                     return Ok(blamed(&text[..found.end], at));
                 }
                 at = found.end;

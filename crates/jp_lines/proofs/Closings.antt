@@ -45,7 +45,7 @@ module _ {I R W E : Type 0} (opens : I → List ℕ → Result R Unopened → I 
 
     -- a query that is not read
     pub unread-query : (wanted : Wanted) (extent : Extent) (query : List ℕ) (given : Unbegun)
-        → StopsAtQuery job.profile query given
+        → StopsAtQuery job.options.profile query given
         → Runs (record job { request = SelectBy wanted extent query }) a a o o u u (Err given)
     unread-query wanted extent query (why.Query text r) stops =
         refused (why.Query text r) refl stops refl refl refl
@@ -58,7 +58,7 @@ module _ {I R W E : Type 0} (opens : I → List ℕ → Result R Unopened → I 
     unread-query wanted extent query (why.Expression text r) stops = absurd stops
 
     -- an expression
-    pub unread-expression : (text : List ℕ) (given : Unbegun) → StopsAtExpression job.profile text given
+    pub unread-expression : (text : List ℕ) (given : Unbegun) → StopsAtExpression job.options.profile text given
         → Runs (record job { request = KeepBy text }) a a o o u u (Err given)
     unread-expression text (why.Expression other r) stops =
         refused (why.Expression other r) refl stops refl refl refl
@@ -72,7 +72,7 @@ module _ {I R W E : Type 0} (opens : I → List ℕ → Result R Unopened → I 
 
     -- several queries that are not all read
     pub unread-queries : (style : Style) (named : Bool) (queries : List (List ℕ)) (given : Unbegun)
-        → StopsReading job.profile queries given
+        → StopsReading job.options.profile queries given
         → Runs (record job { request = ColumnsBy style named queries }) a a o o u u (Err given)
     unread-queries style named queries (why.Query text r) stops =
         refused (why.Query text r) refl stops refl refl refl
@@ -96,7 +96,7 @@ module _ {I R W E : Type 0} (opens : I → List ℕ → Result R Unopened → I 
     pub ends-unbegun : (hung_up : W → Bool) (words : List (List ℕ)) (given : Unbegun) (status : ℕ) (w : E)
         → asked words ≡ Some job → Runs job a b o p u v (Err given)
         → status ≡ status_of_unbegun given
-        → TellsUnbegun reports reports_failed job.profile given (hung_up p) v w
+        → TellsUnbegun reports reports_failed job.options.profile given (hung_up p) v w
         → RunsProgram opens remaining has_failed read_gives contents writes_failed write_takes holds_back reports
         reports_failed hung_up words a b o p u w status
     ends-unbegun hung_up words given status w asks runs is tells =
@@ -107,5 +107,5 @@ module _ {I R W E : Type 0} (opens : I → List ℕ → Result R Unopened → I 
           asks = asks;
           runs = subst (λ x. Runs job a b o p u x (Err given)) quiet runs;
         }) is
-        (subst (λ x. TellsUnbegun reports reports_failed job.profile given (hung_up p) x w) quiet
+        (subst (λ x. TellsUnbegun reports reports_failed job.options.profile given (hung_up p) x w) quiet
         tells)

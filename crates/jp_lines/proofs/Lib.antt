@@ -21,3 +21,4 @@ pub mod OneByOne
 pub mod Rows
 mod HandingOn
 mod Served
+mod Showing

@@ -8,10 +8,12 @@ use Rattle.std.proofs.lemmas.List.{append-nil}
 use Rattle.std.specs.Io.KnownBytes.{Appends, Keeps}
 use Rattle.std.specs.Prelude.{⊤}
 use Rattle.std.specs.Result.{IsErrAnd}
-use Rattle.jp_document.specs.Document.{IsDocument, IsDocumentFault}
+use Rattle.jp_document.specs.Exact.{IsDocumentIn}
 use Rattle.jp_document.specs.Value.{Value}
 use Rattle.jp_document.specs.declared.fault.DocumentFault.{DocumentFault}
 use Rattle.jp_document.specs.declared.fault.DocumentFault.TheVariants as document
+use Rattle.jp_exact.specs.Defects.{IsDocumentFaultIn}
+use Rattle.jp_check.specs.Numbers.{numbers}
 use Rattle.jp_limit.specs.OutputLimit.{StaysWithin}
 use Rattle.jp_command.specs.Limits.{document_limit}
 use Rattle.jp_command.specs.Output.{AppendsPrefix, WritesAll}
@@ -60,7 +62,7 @@ err-is (Err x) e P is holds = subst P (sym is) holds
 
 -- the defect of a line that is no document is the fault of its bytes
 pub defect-of_bytes : (options : Options) (task : Task) (number : ℕ) (line : List ℕ) (d : Defect)
-    → IsDefective options task number line d → IsDefectOfBytes line d
+    → IsDefective options task number line d → IsDefectOfBytes options.profile line d
 defect-of_bytes options task number line d (no_document fault few some is known) = is
 defect-of_bytes options task number line d (too_large many) = tt
 defect-of_bytes options task number line d (steps_used_up doc made few some is limit) = tt
@@ -108,7 +110,7 @@ module _ {W : Type 0} (contents : W → Option (List ℕ)) (has_failed : W → B
   answers-blank o few is = (blank few is, refl)
 
   answers-document : (d : Value) (o p : W) → length line ≤ document_limit
-      → is_blank_line line ≡ false → IsDocument line d
+      → is_blank_line line ≡ false → IsDocumentIn (numbers options.profile) line d
       → StaysWithin options.output_limit (selected_in task d) (length (output d))
       → WritesAll contents has_failed o p (output d) → (selected : ℕ) → selected ≡ selected_in task d
       → AnswersLine contents has_failed options task n line o p selected
@@ -121,7 +123,7 @@ module _ {W : Type 0} (contents : W → Option (List ℕ)) (has_failed : W → B
 
   -- it is written, or given up
   pub answers-wanted : (d : Value) (o p : W) (given : Reply) → length line ≤ document_limit
-      → is_blank_line line ≡ false → IsDocument line d
+      → is_blank_line line ≡ false → IsDocumentIn (numbers options.profile) line d
       → WritesOrGivesUp contents has_failed options (selected_in task d) (output d) o p given
       → AnswersOrRefuses contents has_failed options task n line o p given
   answers-wanted d o p reply.Blank few some is up = absurd up
@@ -137,7 +139,7 @@ module _ {W : Type 0} (contents : W → Option (List ℕ)) (has_failed : W → B
   answers-wanted d o p (reply.Refused defect.TooLarge) few some is up = absurd up.0
 
   pub stops-document : (d : Value) (o p : W) (f : Fault) → length line ≤ document_limit
-      → is_blank_line line ≡ false → IsDocument line d
+      → is_blank_line line ≡ false → IsDocumentIn (numbers options.profile) line d
       → StopsWriting contents has_failed o p (output d) f
       → WritesWithin contents has_failed options (selected_in task d) (output d) o p f
       → StopsAnswering contents has_failed options task n line o p f
@@ -169,7 +171,7 @@ module _ {W : Type 0} (contents : W → Option (List ℕ)) (has_failed : W → B
 
   -- both, where a count and a text are those of the document
   module _ (d : Value) (o p : W) (count : ℕ) (text : List ℕ) (few : length line ≤ document_limit)
-      (some : is_blank_line line ≡ false) (is : IsDocument line d) (counted : count ≡ selected_in task d)
+      (some : is_blank_line line ≡ false) (is : IsDocumentIn (numbers options.profile) line d) (counted : count ≡ selected_in task d)
       (same : text ≡ output d) where
     pub answers-same : (given : Result Reply Fault)
         → IfOk given (WritesOrGivesUp contents has_failed options count text o p)
@@ -193,10 +195,12 @@ module _ {W : Type 0} (contents : W → Option (List ℕ)) (has_failed : W → B
 
   -- what is no document is refused, and want of memory stops
   pub refuses-document : (f : DocumentFault) (o : W) → length line ≤ document_limit
-      → is_blank_line line ≡ false → IsDocumentFault line f
+      → is_blank_line line ≡ false → IsDocumentFaultIn (numbers options.profile) line f
       → IfOk (defect_of f) (AnswersOrRefuses contents has_failed options task n line o o)
       × IfErr (defect_of f) (StopsAnswering contents has_failed options task n line o o)
   refuses-document document.NoMemory o few some is = (tt, (inl refl, refl))
+  refuses-document (document.NumberRange path) o few some is =
+      ((no_document (document.NumberRange path) few some is (λ e. cc), refl), tt)
   refuses-document document.NotJson o few some is =
       ((no_document document.NotJson few some is (λ e. cc), refl), tt)
   refuses-document (document.NotWhole path) o few some is =

@@ -13,7 +13,7 @@ use Rattle.clap.proofs.ValueTestLemmas.{Accepts-accepts, accepts-Accepts}
 use Rattle.clap.proofs.WalkLemmas.{one_text-rows, raw_values-rows}
 use Rattle.jp_command.specs.CommandLine.{query_app}
 use Rattle.jp_lines.specs.CommandLine.{columns_app, greatest, jp_lines, keep_app, lines_app, number_asked}
-use Rattle.jp_lines.specs.CommandLine.{number_in, queries_app, values_app, with_columns, with_keep}
+use Rattle.jp_lines.specs.CommandLine.{number_given, queries_app, values_app, with_columns, with_keep}
 use Rattle.jp_lines.specs.CommandLine.{with_selections, words_of}
 
 pub jp_lines_is_free : is_simple_and_free jp_lines ≡ true
@@ -30,7 +30,7 @@ not-true false other = refl
 
 -- a number that is read of a text, or none
 number-of_text : (E : Type 0) (t : List ℕ) (value : Option ℕ)
-    → ReadsOne (ParsesUnsigned {E = E} 64 10) t value → value ≡ number_in t
+    → ReadsOne (ParsesUnsigned {E = E} 64 10) t value → value ≡ number_given t
 number-of_text E t (Some v) is =
     let small = is.0.1 in
     let fits : is_unsigned_in 0 greatest t ≡ true =
@@ -50,7 +50,7 @@ pub number-read : (E : Type 0) (gives : List ℕ → Result ℕ E → Type 0)
     → ((t : List ℕ) → one_text found name ≡ Some t → ReadsOne gives t value)
     → value ≡ number_asked name (rows_of found)
 number-read E gives parses found name value none some =
-    go (one_text found name) refl ∙ ap (option_and_then number_in) (one_text-rows found name)
+    go (one_text found name) refl ∙ ap (option_and_then number_given) (one_text-rows found name)
   where
     reads : (t : List ℕ) (o : Option ℕ) → ReadsOne gives t o
         → ReadsOne (ParsesUnsigned {E = E} 64 10) t o
@@ -58,7 +58,7 @@ number-read E gives parses found name value none some =
     reads t None is = (is.0, parses t (Err is.0) is.1)
 
     go : (text : Option (List ℕ)) → one_text found name ≡ text
-        → value ≡ option_and_then number_in text
+        → value ≡ option_and_then number_given text
     go None is = none is
     go (Some t) is = number-of_text E t value (reads t value (some t is))
 

@@ -3,10 +3,9 @@ use Rattle.std.proofs.Common.{◌≡◌, ℕ, suc, Bool, false, List, [], ◌∷
 use Rattle.std.proofs.Common.{subst, refl, sym, ◌∙◌, ap}
 use Rattle.std.proofs.lemmas.List.{append-nil}
 use Rattle.std.specs.Io.KnownBytes.{Consumes, IsAtEnd}
-use Rattle.jp_check.specs.declared.profile.Profile.{Profile}
 use Rattle.jp_command.specs.Output.{WritesAll}
 use Rattle.jp_command.specs.Run.{IsAsked, IsOutput}
-use Rattle.jp_command.specs.declared.lines.Form.{Form}
+use Rattle.jp_command.specs.declared.form.Form.{Form}
 use Rattle.jp_evaluate.specs.Nodelist.{nodelist}
 use Rattle.jp_reading.specs.Characters.{tab}
 use Rattle.jp_tree.specs.Tree.{QueryTree}
@@ -54,19 +53,17 @@ module _ (options : Options) (task : Task) where
     subst (λ t. ComesTo options task m t x) (heads l line more [] is) comes,
   )
 
-module _ (profile : Profile) {R W E : Type 0} (remaining : R → Option (List ℕ))
-    (has_failed : R → Bool) (read_gives : R → Option (List ℕ) → R → Type 0)
-    (contents : W → Option (List ℕ)) (writes_failed : W → Bool) (reports : E → Option (List ℕ))
-    (reports_failed : E → Bool) where
-  abbrev Output : Form → List ℕ → R → R → List ℕ → Type 0
-  Output = IsOutput profile remaining has_failed read_gives contents writes_failed
+module _ {R W E : Type 0} (remaining : R → Option (List ℕ)) (has_failed : R → Bool)
+    (read_gives : R → Option (List ℕ) → R → Type 0) (contents : W → Option (List ℕ))
+    (writes_failed : W → Bool) (reports : E → Option (List ℕ)) (reports_failed : E → Bool) where
+  abbrev Output : Options → Form → List ℕ → R → R → List ℕ → Type 0
+  Output options = IsOutput options.profile remaining has_failed read_gives contents writes_failed
 
   -- the outcome of a line that is neither blank nor refused is what a run over it writes
   outcome-is : (form : Form) (options : Options) (q : QueryTree) (text bytes : List ℕ) (i j : R)
-      (x : LineOutcome) → options.numbered ≡ false
-      → IsAsked profile text q → ReadsToEnd remaining has_failed read_gives i j bytes
-      → is_blank_line bytes ≡ false → refusal_in x ≡ [] → ComesTo options (Select (Nodes form) All q) 1 bytes x
-      → Output form text i j (written_of x)
+      (x : LineOutcome) → options.numbered ≡ false → IsAsked options.profile text q
+      → ReadsToEnd remaining has_failed read_gives i j bytes → is_blank_line bytes ≡ false → refusal_in x ≡ [] → ComesTo options (Select (Nodes form) All q) 1 bytes x
+      → Output options form text i j (written_of x)
   outcome-is form options q text bytes i j x numbered asked reads some unrefused (blank few is) = cc
   outcome-is form options q text bytes i j x numbered asked reads some unrefused
       (document d few is doc within) = record {
@@ -89,7 +86,7 @@ module _ (profile : Profile) {R W E : Type 0} (remaining : R → Option (List �
   outcome-is form options q text bytes i j x numbered asked reads some unrefused
       (defective d r has of) = cc
 
-  pub one_line : OneLineIsADocument profile remaining has_failed read_gives contents writes_failed
+  pub one_line : OneLineIsADocument remaining has_failed read_gives contents writes_failed
       reports reports_failed
   one_line form options text bytes i j o p u v tally numbered works known single some runs =
       let q = runs.asked.0 in

@@ -1,10 +1,10 @@
 -- What some command lines ask for.
 use Rattle.std.proofs.Common.{◌≡◌, [], ◌∷◌, true, false, List, ℕ, Option, Some, None, codes, refl}
 use Rattle.clap.proofs.OnLiterals.{clap_on_literals}
-use Rattle.jp_check.specs.declared.profile.Profile.{Profile}
-use Rattle.jp_check.specs.declared.profile.Profile.TheVariants.{Standard, Extended}
+use Rattle.jp_check.specs.declared.profile.Profile.TheVariants.{Standard, Extended, Decimal}
+use Rattle.jp_check.specs.declared.profile.Profile.TheVariants.{ExtendedDecimal}
 use Rattle.jp_command.specs.CommandLine.{query_app}
-use Rattle.jp_command.specs.declared.lines.Form.TheVariants.{Values, Paths, Both, RawValues, RawBoth}
+use Rattle.jp_command.specs.Lines as form
 use Rattle.jp_cells.specs.declared.style.Format.TheVariants.{Csv, Tabs}
 use Rattle.jp_lines.specs.CommandLine.{asked, columns_app, jp_lines, keep_app, lines_app, queries_app}
 use Rattle.jp_lines.specs.CommandLine.{values_app, with_columns, with_keep, with_selections}
@@ -17,6 +17,7 @@ use Rattle.jp_lines.specs.declared.options.Wanted.TheVariants.{Nodes, Count}
 abbrev plain : Options
 plain =
     record {
+      profile = Standard;
       numbered = false;
       keep_going = false;
       line_buffered = false;
@@ -29,37 +30,36 @@ plain =
     }
 
 -- a job over these inputs
-abbrev over : List (List ℕ) → Options → Request → Profile → Option Job
-over inputs options request profile =
-    Some (record { options = options; request = request; inputs = inputs; profile = profile })
+abbrev over : List (List ℕ) → Options → Request → Option Job
+over inputs options request = Some (record { options = options; request = request; inputs = inputs })
 
 values : asked (codes "jp-lines" ∷ codes "eval" ∷ codes "$" ∷ [])
-    ≡ over [] plain (SelectBy (Nodes Values) All (codes "$")) Standard
+    ≡ over [] plain (SelectBy (Nodes form.values) All (codes "$"))
 unfolding clap_on_literals jp_lines with_columns with_keep with_selections keep_app values_app lines_app columns_app queries_app query_app
 values = refl
 
 number_and_buffer :
     asked (codes "jp-lines" ∷ codes "both" ∷ codes "--number" ∷ codes "$"
     ∷ codes "--line-buffered" ∷ [])
-    ≡ over [] (record plain { numbered = true; line_buffered = true }) (SelectBy (Nodes Both) All (codes "$")) Standard
+    ≡ over [] (record plain { numbered = true; line_buffered = true }) (SelectBy (Nodes form.both) All (codes "$"))
 unfolding clap_on_literals jp_lines with_columns with_keep with_selections keep_app values_app lines_app columns_app queries_app query_app
 number_and_buffer = refl
 
 going_and_extended :
     asked (codes "jp-lines" ∷ codes "count" ∷ codes "--keep-going" ∷ codes "--extended"
     ∷ codes "$" ∷ [])
-    ≡ over [] (record plain { keep_going = true }) (SelectBy Count All (codes "$")) Extended
+    ≡ over [] (record plain { profile = Extended; keep_going = true }) (SelectBy Count All (codes "$"))
 unfolding clap_on_literals jp_lines with_columns with_keep with_selections keep_app values_app lines_app columns_app queries_app query_app
 going_and_extended = refl
 
 explaining : asked (codes "jp-lines" ∷ codes "eval" ∷ codes "$" ∷ codes "--explain" ∷ [])
-    ≡ over [] (record plain { explaining = true }) (SelectBy (Nodes Values) All (codes "$")) Standard
+    ≡ over [] (record plain { explaining = true }) (SelectBy (Nodes form.values) All (codes "$"))
 unfolding clap_on_literals jp_lines with_columns with_keep with_selections keep_app values_app lines_app columns_app queries_app query_app
 explaining = refl
 
 keeping :
     asked (codes "jp-lines" ∷ codes "keep" ∷ codes "@.a" ∷ codes "--keep-going" ∷ [])
-    ≡ over [] (record plain { keep_going = true }) (KeepBy (codes "@.a")) Standard
+    ≡ over [] (record plain { keep_going = true }) (KeepBy (codes "@.a"))
 unfolding clap_on_literals jp_lines with_columns with_keep with_selections keep_app values_app lines_app columns_app queries_app query_app
 keeping = refl
 
@@ -79,13 +79,13 @@ subcommand_of_another_program = refl
 
 limit :
     asked (codes "jp-lines" ∷ codes "eval" ∷ codes "--limit" ∷ codes "10000" ∷ codes "$" ∷ [])
-    ≡ over [] (record plain { limit = Some 10000 }) (SelectBy (Nodes Values) All (codes "$")) Standard
+    ≡ over [] (record plain { limit = Some 10000 }) (SelectBy (Nodes form.values) All (codes "$"))
 unfolding clap_on_literals jp_lines with_columns with_keep with_selections keep_app values_app lines_app columns_app queries_app query_app
 limit = refl
 
 greatest_limit :
     asked (codes "jp-lines" ∷ codes "count" ∷ codes "$" ∷ codes "--limit=18446744073709551615" ∷ [])
-    ≡ over [] (record plain { limit = Some 18446744073709551615 }) (SelectBy Count All (codes "$")) Standard
+    ≡ over [] (record plain { limit = Some 18446744073709551615 }) (SelectBy Count All (codes "$"))
 unfolding clap_on_literals jp_lines with_columns with_keep with_selections keep_app values_app lines_app columns_app queries_app query_app
 greatest_limit = refl
 
@@ -104,7 +104,7 @@ output_limit :
     asked (codes "jp-lines" ∷ codes "paths" ∷ codes "--max-bytes" ∷ codes "5" ∷ codes "$"
     ∷ codes "--max-nodes=18446744073709551615" ∷ [])
     ≡ over [] (record plain { output_limit = record { nodes = Some 18446744073709551615; bytes = Some 5 } })
-    (SelectBy (Nodes Paths) All (codes "$")) Standard
+    (SelectBy (Nodes form.paths) All (codes "$"))
 unfolding clap_on_literals jp_lines with_columns with_keep with_selections keep_app values_app lines_app columns_app queries_app query_app
 output_limit = refl
 
@@ -115,14 +115,14 @@ output_limit_of_none = refl
 
 first_and_status :
     asked (codes "jp-lines" ∷ codes "paths" ∷ codes "--first" ∷ codes "$" ∷ codes "--exit-status" ∷ [])
-    ≡ over [] (record plain { exit_status = true }) (SelectBy (Nodes Paths) First (codes "$")) Standard
+    ≡ over [] (record plain { exit_status = true }) (SelectBy (Nodes form.paths) First (codes "$"))
 unfolding clap_on_literals jp_lines with_columns with_keep with_selections keep_app values_app lines_app columns_app queries_app query_app
 first_and_status = refl
 
 columns :
     asked (codes "jp-lines" ∷ codes "columns" ∷ codes "$.a" ∷ codes "--csv" ∷ codes "$.b"
     ∷ codes "--names" ∷ codes "--keep-going" ∷ [])
-    ≡ over [] (record plain { keep_going = true }) (ColumnsBy (record { format = Csv; raw = false }) true (codes "$.a" ∷ codes "$.b" ∷ [])) Standard
+    ≡ over [] (record plain { keep_going = true }) (ColumnsBy (record { format = Csv; raw = false }) true (codes "$.a" ∷ codes "$.b" ∷ []))
 unfolding clap_on_literals jp_lines with_columns with_keep with_selections keep_app values_app lines_app columns_app queries_app query_app
 columns = refl
 
@@ -137,39 +137,38 @@ csv_of_another_command = refl
 two_files :
     asked (codes "jp-lines" ∷ codes "count" ∷ codes "$" ∷ codes "a" ∷ codes "--summary" ∷ codes "-" ∷ [])
     ≡ over (codes "a" ∷ codes "-" ∷ []) (record plain { summary = true }) (SelectBy Count All (codes "$"))
-    Standard
 unfolding clap_on_literals jp_lines with_columns with_keep with_selections keep_app values_app lines_app columns_app queries_app query_app
 two_files = refl
 
 keeping_in_a_file :
     asked (codes "jp-lines" ∷ codes "keep" ∷ codes "@.a" ∷ codes "x.jsonl" ∷ [])
-    ≡ over (codes "x.jsonl" ∷ []) plain (KeepBy (codes "@.a")) Standard
+    ≡ over (codes "x.jsonl" ∷ []) plain (KeepBy (codes "@.a"))
 unfolding clap_on_literals jp_lines with_columns with_keep with_selections keep_app values_app lines_app columns_app queries_app query_app
 keeping_in_a_file = refl
 
 columns_and_files :
     asked (codes "jp-lines" ∷ codes "columns" ∷ codes "$.a" ∷ codes "$.b" ∷ codes "x" ∷ codes "$y" ∷ [])
     ≡ over (codes "x" ∷ codes "$y" ∷ []) plain
-    (ColumnsBy (record { format = Tabs; raw = false }) false (codes "$.a" ∷ codes "$.b" ∷ [])) Standard
+    (ColumnsBy (record { format = Tabs; raw = false }) false (codes "$.a" ∷ codes "$.b" ∷ []))
 unfolding clap_on_literals jp_lines with_columns with_keep with_selections keep_app values_app lines_app columns_app queries_app query_app
 columns_and_files = refl
 
 first_word_of_columns :
     asked (codes "jp-lines" ∷ codes "columns" ∷ codes "x" ∷ codes "$.b" ∷ codes "./$y" ∷ [])
     ≡ over (codes "./$y" ∷ []) plain
-    (ColumnsBy (record { format = Tabs; raw = false }) false (codes "x" ∷ codes "$.b" ∷ [])) Standard
+    (ColumnsBy (record { format = Tabs; raw = false }) false (codes "x" ∷ codes "$.b" ∷ []))
 unfolding clap_on_literals jp_lines with_columns with_keep with_selections keep_app values_app lines_app columns_app queries_app query_app
 first_word_of_columns = refl
 
 raw_values :
     asked (codes "jp-lines" ∷ codes "eval" ∷ codes "--raw" ∷ codes "$" ∷ [])
-    ≡ over [] plain (SelectBy (Nodes RawValues) All (codes "$")) Standard
+    ≡ over [] plain (SelectBy (Nodes form.raw_values) All (codes "$"))
 unfolding clap_on_literals jp_lines with_columns with_keep with_selections keep_app values_app lines_app columns_app queries_app query_app
 raw_values = refl
 
 raw_both :
     asked (codes "jp-lines" ∷ codes "both" ∷ codes "$" ∷ codes "--raw" ∷ codes "x" ∷ [])
-    ≡ over (codes "x" ∷ []) plain (SelectBy (Nodes RawBoth) All (codes "$")) Standard
+    ≡ over (codes "x" ∷ []) plain (SelectBy (Nodes form.raw_both) All (codes "$"))
 unfolding clap_on_literals jp_lines with_columns with_keep with_selections keep_app values_app lines_app columns_app queries_app query_app
 raw_both = refl
 
@@ -181,7 +180,7 @@ no_reports :
     asked (codes "jp-lines" ∷ codes "eval" ∷ codes "$" ∷ codes "--keep-going" ∷ codes "--reports"
     ∷ codes "0" ∷ [])
     ≡ over [] (record plain { keep_going = true; reports = Some 0 })
-    (SelectBy (Nodes Values) All (codes "$")) Standard
+    (SelectBy (Nodes form.values) All (codes "$"))
 unfolding clap_on_literals jp_lines with_columns with_keep with_selections keep_app values_app lines_app columns_app queries_app query_app
 no_reports = refl
 
@@ -190,3 +189,26 @@ reports_too_many :
     ≡ None
 unfolding clap_on_literals jp_lines with_columns with_keep with_selections keep_app values_app lines_app columns_app queries_app query_app
 reports_too_many = refl
+
+decimals : asked (codes "jp-lines" ∷ codes "eval" ∷ codes "--decimals" ∷ codes "$" ∷ [])
+    ≡ over [] (record plain { profile = Decimal }) (SelectBy (Nodes form.values) All (codes "$"))
+unfolding clap_on_literals jp_lines with_columns with_keep with_selections keep_app values_app lines_app columns_app queries_app query_app
+decimals = refl
+
+keeping_by_decimals :
+    asked (codes "jp-lines" ∷ codes "keep" ∷ codes "@.a" ∷ codes "x" ∷ codes "--decimals" ∷ codes "--extended" ∷ [])
+    ≡ over (codes "x" ∷ []) (record plain { profile = ExtendedDecimal }) (KeepBy (codes "@.a"))
+unfolding clap_on_literals jp_lines with_columns with_keep with_selections keep_app values_app lines_app columns_app queries_app query_app
+keeping_by_decimals = refl
+
+columns_of_decimals :
+    asked (codes "jp-lines" ∷ codes "columns" ∷ codes "--decimals" ∷ codes "$.a" ∷ codes "$.b" ∷ [])
+    ≡ over [] (record plain { profile = Decimal })
+    (ColumnsBy (record { format = Tabs; raw = false }) false (codes "$.a" ∷ codes "$.b" ∷ []))
+unfolding clap_on_literals jp_lines with_columns with_keep with_selections keep_app values_app lines_app columns_app queries_app query_app
+columns_of_decimals = refl
+
+decimals_twice :
+    asked (codes "jp-lines" ∷ codes "count" ∷ codes "--decimals" ∷ codes "$" ∷ codes "--decimals" ∷ []) ≡ None
+unfolding clap_on_literals jp_lines with_columns with_keep with_selections keep_app values_app lines_app columns_app queries_app query_app
+decimals_twice = refl

@@ -11,6 +11,7 @@ use Rattle.jp_flat.specs.declared.flat.Flat.{Flat}
 use Rattle.jp_held.specs.declared.portion.Portion.{Portion}
 use Rattle.jp_tree.specs.Tree.{QueryTree}
 use Rattle.jp_evaluate.specs.Nodelist.{nodelist}
+use Rattle.jp_decimal.specs.declared.numbers.Numbers.{Numbers}
 use Rattle.jp_evaluate.specs.Plan.{HoldsPortion, Serves}
 use Rattle.jp_cells.specs.Cells.{cell_text, values_in}
 use Rattle.jp_cells.specs.Columns.{cell_of}
@@ -36,7 +37,7 @@ module _ (P : QueryTree → Type 0) (u d : Value)
   same-nodes (q ∷ qs) all =
       ap₂ (λ ns ms. ns ++ ms) (each q (All-head P q qs all)) (same-nodes qs (All-tail P q qs all))
 
-module _ (p : Portion) (bytes : List ℕ) (f : Flat) (x : HoldsPortion p bytes f) where
+module _ (numbers : Numbers) (p : Portion) (bytes : List ℕ) (f : Flat) (x : HoldsPortion numbers p bytes f) where
   pub served-selected : (task : Task) → ServesTask task p
       → selected_in task (document_in f) ≡ selected_in task x.document
   served-selected (Select wanted extent q) serves =

@@ -1,6 +1,6 @@
 -- What the words of a command line ask for: the command line as clap reads it, and what it finds in
--- the words: how to go over the lines, what is asked of each document, the names of the inputs, and the
--- profile. `Program` cites it.
+-- the words: how to go over the lines and in which profile, what is asked of each document, and the names of
+-- the inputs. `Program` cites it.
 use Rattle.std.specs.Prelude.{ℕ, suc, ◌==◌, Bool, true, false, List, [], ◌∷◌, Option, Some, None}
 use Rattle.std.specs.Prelude.{codes, if◌then◌else◌, option_and_then, option_map, unwrap_or, drop, take}
 use Rattle.std.specs.List.{prefix_len}
@@ -17,7 +17,7 @@ use Rattle.clap.specs.Walk.{is_empty}
 use Rattle.jp_cells.specs.declared.style.Format.TheVariants.{Csv, Tabs}
 use Rattle.jp_cells.specs.declared.style.Style.{Style}
 use Rattle.jp_command.specs.CommandLine.{is_set, profile_asked, query_app, with_flag}
-use Rattle.jp_command.specs.declared.lines.Form.TheVariants.{Values, Paths, Both, RawValues, RawBoth}
+use Rattle.jp_command.specs.Lines.{both, paths, raw_both, raw_values, values}
 use Rattle.jp_limit.specs.declared.output_limit.OutputLimit.{OutputLimit}
 use Rattle.jp_lines.specs.Request.{ColumnsBy, Job, KeepBy, Request, SelectBy}
 use Rattle.jp_lines.specs.declared.options.Extent.{Extent}
@@ -56,8 +56,8 @@ with_tellings app = with_flag (with_flag (with_flag app (codes "explain")) (code
 
 -- the command with the flags and the options of a run over lines
 abbrev pub with_line_flags : App → App
-with_line_flags app = with_line_numbers (with_tellings (with_flag (with_flag (with_flag app
-    (codes "number")) (codes "keep-going")) (codes "line-buffered")))
+with_line_flags app = with_line_numbers (with_tellings (with_flag (with_flag (with_flag (with_flag app
+    (codes "decimals")) (codes "number")) (codes "keep-going")) (codes "line-buffered")))
 
 -- the command whose further positionals are the names of inputs, which need not be given
 abbrev pub with_files : App → App
@@ -121,19 +121,19 @@ jp_lines = on_top (λ top. record top { subcommand_required = true; has_version 
 -- what a subcommand's name asks to be written of each document, where texts are to be raw or not
 abbrev pub wanted_called : Text → Bool → Option Wanted
 wanted_called name raw =
-    if bytes_eq name (codes "eval") then Some (Nodes (if raw then RawValues else Values))
-    else if bytes_eq name (codes "paths") then Some (Nodes Paths)
-    else if bytes_eq name (codes "both") then Some (Nodes (if raw then RawBoth else Both))
+    if bytes_eq name (codes "eval") then Some (Nodes (if raw then raw_values else values))
+    else if bytes_eq name (codes "paths") then Some (Nodes paths)
+    else if bytes_eq name (codes "both") then Some (Nodes (if raw then raw_both else both))
     else if bytes_eq name (codes "count") then Some Count else None
 
 -- the number of 64 bits that a text writes in decimal
-abbrev pub number_in : Text → Option ℕ
-number_in text = if is_unsigned_in 0 greatest text
+abbrev pub number_given : Text → Option ℕ
+number_given text = if is_unsigned_in 0 greatest text
     then Some (digits_value 10 (without_leading_plus text)) else None
 
 -- the number that the option of that name has, where it is given
 abbrev pub number_asked : Text → List Row → Option ℕ
-number_asked name rows = option_and_then number_in (one_of name rows)
+number_asked name rows = option_and_then number_given (one_of name rows)
 
 -- what may come out of one document at most
 abbrev pub output_limit_asked : List Row → OutputLimit
@@ -145,6 +145,7 @@ output_limit_asked rows = record {
 -- what the flags and the options ask for
 abbrev pub options_asked : List Row → Options
 options_asked rows = record {
+  profile = profile_asked rows;
   numbered = is_set (codes "number") rows;
   keep_going = is_set (codes "keep-going") rows;
   line_buffered = is_set (codes "line-buffered") rows;
@@ -215,7 +216,6 @@ asked_by entered = option_map
       options = options_asked entered.1;
       request = request;
       inputs = inputs_by entered.0 entered.1;
-      profile = profile_asked entered.1;
     })
     (request_by entered.0 entered.1)
 

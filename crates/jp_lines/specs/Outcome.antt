@@ -5,11 +5,14 @@ use Rattle.std.specs.Prelude.{[], ◌∷◌, ◌++◌, Option, Some, None, lengt
 use Rattle.std.specs.Prelude.{string_bytes, take}
 use Rattle.std.specs.Fmt.{decimal}
 use Rattle.std.specs.List.{flat_map}
-use Rattle.jp_document.specs.Document.{IsDocument, IsDocumentFault}
+use Rattle.jp_document.specs.Exact.{IsDocumentIn}
 use Rattle.jp_document.specs.Faults.{document_fault_text}
 use Rattle.jp_document.specs.Value.{Value}
 use Rattle.jp_document.specs.declared.fault.DocumentFault.{DocumentFault}
 use Rattle.jp_document.specs.declared.fault.DocumentFault.TheVariants.{NoMemory}
+use Rattle.jp_exact.specs.Defects.{IsDocumentFaultIn}
+use Rattle.jp_check.specs.Numbers.{numbers}
+use Rattle.jp_check.specs.declared.profile.Profile.{Profile}
 use Rattle.jp_command.specs.Limits.{document_limit}
 use Rattle.jp_limit.specs.OutputLimit.{Exceeds, StaysWithin}
 use Rattle.jp_json.specs.Misreading.{IsMisreading}
@@ -126,17 +129,18 @@ hint_of Gzip = codes " gzip -dc writes what it holds."
 hint_of Utf16 = codes " iconv -f UTF-16 -t UTF-8 writes it so."
 hint_of _ = []
 
--- the text says how the line is misread, at the input's line of that number, and a newline ends it
-pub record IsMisreadAs (number : ℕ) (line text : List ℕ) : Type 0 where
+-- the text says how the line is misread in that profile, at the input's line of that number, and a newline
+-- ends it
+pub record IsMisreadAs (profile : Profile) (number : ℕ) (line text : List ℕ) : Type 0 where
   pub m : Misreading
-  pub misread : IsMisreading line m
+  pub misread : IsMisreading (numbers profile) line m
   pub is : text ≡ misreading_text (record m { line = number }) ++ (hint_of m.reason ++ codes "\n")
 
 -- what is told behind a defect of the line: of one that is no document, where that is asked for, how it
 -- is misread, unless memory ran out for it; and else nothing
 abbrev pub IsToldBehind : Options → ℕ → List ℕ → Defect → List ℕ → Type 0
 IsToldBehind options number line (Document fault) text =
-    (text ≡ []) ⊎ ((options.explaining ≡ true) × IsMisreadAs number line text)
+    (text ≡ []) ⊎ ((options.explaining ≡ true) × IsMisreadAs options.profile number line text)
 IsToldBehind options number line _ text = text ≡ []
 
 -- the refusal of the line of that number for the defect
@@ -146,7 +150,8 @@ pub record IsRefusal (options : Options) (number : ℕ) (line : List ℕ) (defec
   pub defect_is : r.defect ≡ defect
   pub behind : IsToldBehind options number line defect (string_bytes r.explanation)
 
--- how a run goes over its lines, and what it does with each document
+-- how a run goes over its lines, each of which is to be a document with the numbers of the profile, and what it
+-- does with each document
 module _ (options : Options) (task : Task) where
   -- what is to be written of the document d, which stands in the line of that number
   abbrev pub output_for : ℕ → List ℕ → Value → List ℕ
@@ -156,20 +161,21 @@ module _ (options : Options) (task : Task) where
   -- the line of that number has this defect
   pub data IsDefective (number : ℕ) (line : List ℕ) : Defect → Type 0 where
     no_document : (fault : DocumentFault) → length line ≤ document_limit
-        → is_blank_line line ≡ false → IsDocumentFault line fault → fault ≢ NoMemory
-        → IsDefective number line (Document fault)
+        → is_blank_line line ≡ false → IsDocumentFaultIn (numbers options.profile) line fault
+        → fault ≢ NoMemory → IsDefective number line (Document fault)
     too_large : document_limit < length line → IsDefective number line TooLarge
     -- only where there is a limit: as many steps as it says were made over the document
     steps_used_up : (d : Value) (made : ℕ) → length line ≤ document_limit
-        → is_blank_line line ≡ false → IsDocument line d → options.limit ≡ Some made
-        → IsDefective number line (StepsUsedUp made)
+        → is_blank_line line ≡ false → IsDocumentIn (numbers options.profile) line d
+        → options.limit ≡ Some made → IsDefective number line (StepsUsedUp made)
     -- more nodes are selected in the document than may come out of one
     too_many_nodes : (d : Value) → length line ≤ document_limit → is_blank_line line ≡ false
-        → IsDocument line d → Exceeds options.output_limit.nodes (selected_in task d)
-        → IsDefective number line TooManyNodes
+        → IsDocumentIn (numbers options.profile) line d
+        → Exceeds options.output_limit.nodes (selected_in task d) → IsDefective number line TooManyNodes
     -- more bytes are to be written of the document than may come out of one
     too_many_bytes : (d : Value) → length line ≤ document_limit → is_blank_line line ≡ false
-        → IsDocument line d → Exceeds options.output_limit.bytes (length (output_for number line d))
+        → IsDocumentIn (numbers options.profile) line d
+        → Exceeds options.output_limit.bytes (length (output_for number line d))
         → IsDefective number line TooManyBytes
 
   -- the line of that number comes to this
@@ -178,7 +184,7 @@ module _ (options : Options) (task : Task) where
         → ComesTo number line Blank
     -- no more nodes are selected in the document, and no more bytes to be written, than may come out
     document : (d : Value) → length line ≤ document_limit → is_blank_line line ≡ false
-        → IsDocument line d
+        → IsDocumentIn (numbers options.profile) line d
         → StaysWithin options.output_limit (selected_in task d) (length (output_for number line d))
         → ComesTo number line (Answered (selected_in task d) (output_for number line d))
     defective : (defect : Defect) (r : RefusedLine) → IsDefective number line defect

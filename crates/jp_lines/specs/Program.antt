@@ -190,15 +190,15 @@ module _ {I R W E : Type 0} (opens : I → List ℕ → Result R Unopened → I 
   pub data RunsJob (job : Job) (a b : I) (o p : W) (u v : E) (answer : Result Ended Unbegun) : Type 0
     where
       begun : (task : Task) (ended : Ended) → answer ≡ Ok ended
-          → IsTaskOf job.profile job.request task
+          → IsTaskOf job.options.profile job.request task
           → RunsWhole job.options job.request job.inputs task a b o p u v ended
           → RunsJob job a b o p u v answer
-      refused : (why : Unbegun) → answer ≡ Err why → IsRefusedAs job.profile job.request why
+      refused : (why : Unbegun) → answer ≡ Err why → IsRefusedAs job.options.profile job.request why
           → b ≡ a → p ≡ o → v ≡ u → RunsJob job a b o p u v answer
       exhausted : answer ≡ Err (unbegun.Fault NoMemory) → b ≡ a → p ≡ o → v ≡ u
           → RunsJob job a b o p u v answer
       not_begun : (task : Task) (fault : Fault) → answer ≡ Err (unbegun.Fault fault)
-          → IsTaskOf job.profile job.request task
+          → IsTaskOf job.options.profile job.request task
           → StopsWriting contents writes_failed o p (begin_of job.options job.request) fault
           → b ≡ a → v ≡ u → RunsJob job a b o p u v answer
 
@@ -221,7 +221,7 @@ module _ {I R W E : Type 0} (opens : I → List ℕ → Result R Unopened → I 
             status → RunsProgram words a b o p u v status
         not_begun : (why : Unbegun) → (run : RunEnds words a b o p u u (Err why))
             → status ≡ status_of_unbegun why
-            → TellsUnbegun reports reports_failed run.job.profile why (hung_up p) u v
+            → TellsUnbegun reports reports_failed run.job.options.profile why (hung_up p) u v
             → RunsProgram words a b o p u v status
         shown : status ≡ 0 → AsksToShow jp_lines words → b ≡ a → v ≡ u → AppendsSome (contents o) (contents p)
             → writes_failed p ≡ writes_failed o → holds_back p ≡ false

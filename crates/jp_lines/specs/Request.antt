@@ -58,4 +58,3 @@ pub record Job : Type 0 where
   pub options : Options
   pub request : Request
   pub inputs : List (List ℕ)
-  pub profile : Profile

@@ -2,7 +2,6 @@
 use Rattle.std.specs.Prelude.{◌≡◌, ◌≢◌, ◌⊎◌, ⊤, ℕ, ◌+◌, ◌≤◌, Bool, true, false, List, [], ◌∷◌, ◌++◌}
 use Rattle.std.specs.Prelude.{length, Option, Result, Ok, Err}
 use Rattle.std.specs.Io.KnownBytes.{Keeps}
-use Rattle.jp_check.specs.declared.profile.Profile.{Profile}
 use Rattle.jp_command.specs.Limits.{document_limit}
 use Rattle.jp_command.specs.Output.{AppendsPrefix, WritesAll}
 use Rattle.jp_command.specs.declared.fault.Fault.TheVariants.{Query, NoMemory, Read, Write}
@@ -153,15 +152,14 @@ module _ (options : Options) (lead : List ℕ) {R W E : Type 0}
   GoesOver (Err (Run Write)) = StopsAtLine (Run Write)
   GoesOver (Err (Run _)) = ⊥
 
-module _ (profile : Profile) (options : Options) {R W E : Type 0}
-    (remaining : R → Option (List ℕ)) (has_failed : R → Bool)
+module _ (options : Options) {R W E : Type 0} (remaining : R → Option (List ℕ)) (has_failed : R → Bool)
     (read_gives : R → Option (List ℕ) → R → Type 0) (contents : W → Option (List ℕ))
     (writes_failed : W → Bool) (reports : E → Option (List ℕ)) (reports_failed : E → Bool) where
   -- the task is asked, and the input was gone over with it, which counts that and ended so
   pub record GoesAsAsked (request : Request) (i j : R) (o p : W) (u v : E) (tally : Tally)
       (end : Result ⊤ Stop) : Type 0 where
     pub task : Task
-    pub asked : IsTaskOf profile request task
+    pub asked : IsTaskOf options.profile request task
     pub goes : GoesOver options [] remaining has_failed read_gives contents writes_failed reports
         reports_failed task i j o p u v tally end
 
@@ -174,7 +172,7 @@ module _ (profile : Profile) (options : Options) {R W E : Type 0}
   abbrev pub RunsLines : Request → R → R → W → W → E → E → Result Tally Stop → Type 0
   RunsLines request i j o p u v (Ok tally) = GoesAsAsked request i j o p u v tally (Ok tt)
   RunsLines request i j o p u v (Err (Run (Query r))) =
-      RefusesRequest profile request r × (j ≡ i) × (p ≡ o) × (v ≡ u)
+      RefusesRequest options.profile request r × (j ≡ i) × (p ≡ o) × (v ≡ u)
   RunsLines request i j o p u v (Err (Run NoMemory)) =
       ((j ≡ i) × (p ≡ o) × (v ≡ u)) ⊎ StopsRunning request i j o p u v (Run NoMemory)
   RunsLines request i j o p u v (Err stop) = StopsRunning request i j o p u v stop

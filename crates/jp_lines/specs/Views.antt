@@ -35,5 +35,4 @@ job_of asked = record {
   options = asked.options;
   request = request_of asked.request;
   inputs = map (λ t. t.now) asked.inputs.items;
-  profile = asked.profile;
 }

@@ -131,7 +131,8 @@ fn answer_selection<W: Writer>(
         (selection_task selection.entry) number line.now output.old output.new) }
 {
     let room = mem::replace(&mut memory.room, Room::new(asked.alloc));
-    match selection.plan.read_into(asked.alloc, room, line) {
+    let numbers = asked.options.profile.numbers();
+    match selection.plan.read_into(asked.alloc, room, line, numbers) {
         Ok(read) => {
             let answer = write_read(asked, selection, number, &read, memory, output);
             memory.room = read.into_room();
@@ -202,7 +203,8 @@ fn answer_document<W: Writer>(
         (task_of asked.entry.task) number line.now output.old output.new) }
 {
     let room = mem::replace(&mut memory.room, Room::new(asked.alloc));
-    match plan.read_document(asked.alloc, room, line) {
+    let numbers = asked.options.profile.numbers();
+    match plan.read_document(asked.alloc, room, line, numbers) {
         Ok(flat) => {
             let answer = write_for(asked, number, line, flat.value(), memory, output);
             memory.room = flat.into_room();

@@ -63,6 +63,12 @@ fn with_line_flags<'w>(alloc: Global, command: Command<'w>) -> Result<Command<'w
     let command = with_flag(
         alloc,
         command,
+        "decimals",
+        "Takes numbers as exact decimals, not whole ones alone",
+    )?;
+    let command = with_flag(
+        alloc,
+        command,
         "number",
         "Begins each line with the number of the input's line",
     )?;

@@ -1,12 +1,14 @@
 //! What is told behind the refusal of a line.
 
 ghost use Rattle.std.specs.Prelude.{◌≡◌, IfOk, string_bytes};
-ghost use Rattle.jp_document.specs.Document.{IsDocumentFault};
+ghost use Rattle.jp_exact.specs.Defects.{IsDocumentFaultIn};
+ghost use Rattle.jp_check.specs.Numbers.{numbers};
 ghost use Rattle.jp_lines.specs.Outcome.{IsMisreadAs, IsToldBehind, hint_of};
 ghost use Rattle.jp_lines.specs.Private.Answers.{IsDefectOfBytes};
 
 use crate::answer::Asked;
 use crate::defect::Defect;
+use jp_check::Profile;
 use jp_document::DocumentFault;
 use jp_json::{JsonReason, Misreading, misreading_of};
 use std::alloc::{AllocError, Global};
@@ -20,12 +22,12 @@ pub(crate) fn explanation(
     line: &[u8],
     defect: &Defect,
 ) -> String
-    requires { IsDefectOfBytes line.now defect.now }
+    requires { IsDefectOfBytes asked.options.profile line.now defect.now }
     ensures { IsToldBehind asked.entry.options number line.now defect.now (string_bytes result) }
 {
     match defect {
         Defect::Document(fault) if is_told && asked.options.explaining => {
-            match misread_line(asked.alloc, number, line, fault) {
+            match misread_line(asked.alloc, asked.options.profile, number, line, fault) {
                 Ok(told) => told,
                 Err(_) => String::new(asked.alloc),
             }
@@ -34,17 +36,19 @@ pub(crate) fn explanation(
     }
 }
 
-/// Why and where the input's line of that number is no document, which has that fault.
+/// Why and where the input's line of that number is no document with the numbers of the profile, which has that
+/// fault.
 fn misread_line(
     alloc: Global,
+    profile: Profile,
     number: u64,
     line: &[u8],
     fault: &DocumentFault,
 ) -> Result<String, AllocError>
-    requires { IsDocumentFault line.now fault.now }
-    ensures { IfOk result (λ text. IsMisreadAs number line.now (string_bytes text)) }
+    requires { IsDocumentFaultIn (numbers profile) line.now fault.now }
+    ensures { IfOk result (λ text. IsMisreadAs profile number line.now (string_bytes text)) }
 {
-    let misreading = misreading_of(alloc, line, fault)?;
+    let misreading = misreading_of(alloc, line, profile.numbers(), fault)?;
     let hint = hint(misreading.reason);
     let told = Misreading {
         line: number as usize,

@@ -2,15 +2,16 @@
 //!
 //! ```text
 //! let mut faults = Device::new(rt.stderr());
-//! let values = Wanted::Nodes(Form::Values);
+//! let values = Wanted::Nodes(Form::VALUES);
 //! let tally =
-//!     run_lines(alloc, "$.user.id", Standard, values, options, &mut input, &mut output, &mut faults)?;
+//!     run_lines(alloc, "$.user.id", values, options, &mut input, &mut output, &mut faults)?;
 //! ```
 //!
-//! `Options` say whether lines are numbered, a run goes on after a line that is refused, the output is
-//! flushed after each, and a line that is no document is explained, how many steps the evaluation
-//! over one document may make, and how much may come out of it. `specs/Task.antt` says what is written of a document, `specs/Run.antt`
-//! what `run_lines` says with each answer, by the outcomes of lines in `specs/Outcome.antt`, and
+//! `Options` say in which profile queries are read, whose numbers documents have, whether lines are numbered, a
+//! run goes on after a line that is refused, the output is flushed after each, and a line that is no document is
+//! explained, how many steps the evaluation over one document may make, and how much may come out of it.
+//! `specs/Task.antt` says what is written of a document, `specs/Run.antt` what `run_lines` says with each answer,
+//! by the outcomes of lines in `specs/Outcome.antt`, and
 //! `specs/Lines.antt` what the lines of an input are. `run_program` is the whole program `jp-lines`
 //! over its words and over inputs that an `Inputs` opens by their names, as an `Opener` does in a process;
 //! `specs/Program.antt` has what it says with each status, by how it went over its inputs

@@ -3,6 +3,7 @@
 ghost use Rattle.std.specs.Prelude.{◌≡◌};
 ghost use Rattle.jp_lines.specs.Outcome.{left_after};
 
+use jp_check::Profile;
 use jp_command::Form;
 use jp_limit::OutputLimit;
 
@@ -27,6 +28,8 @@ pub enum Extent {
 /// How a run goes over the lines of its input.
 #[derive(Debug, Clone, Copy, PartialEq, Eq)]
 pub struct Options {
+    /// The profile of jp_check in which queries and expressions are read, and whose numbers documents have.
+    pub profile: Profile,
     /// Whether each line of output begins with the number of the input's line, from 1, and a tab.
     pub numbered: bool,
     /// Whether a run goes on after a line that is refused.

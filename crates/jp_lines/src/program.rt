@@ -3,7 +3,7 @@
 ghost use Rattle.std.specs.Prelude.{◌≡◌, List, ℕ, Some, map, string_bytes};
 ghost use Rattle.jp_lines.specs.CommandLine.{asked};
 ghost use Rattle.jp_lines.specs.Views.{job_of};
-ghost use Rattle.jp_lines.specs.Private.Telling.{Shows};
+ghost use Rattle.jp_lines.specs.Private.Telling.{Shows, TellsUnshown};
 ghost use Rattle.jp_lines.specs.Program.{RunsProgram};
 
 use crate::closing::{close, tell_fault, tell_unbegun, tell_write_fault};
@@ -63,7 +63,7 @@ fn do_job<I: Inputs, W: Output, E: Writer>(
     match run_job(alloc, job, inputs, output, faults) {
         Ok(ended) => close(alloc, job.options, &job.request, &ended, output, faults),
         Err(why) => {
-            tell_unbegun(alloc, &why, job.profile, output, faults);
+            tell_unbegun(alloc, &why, job.options.profile, output, faults);
             status_of_unbegun(&why)
         }
     }
@@ -76,13 +76,20 @@ fn show<W: Output, E: Writer>(alloc: Global, error: &Error, output: &mut W, faul
 {
     match write_shown(alloc, error, output) {
         Ok(()) => 0,
-        Err(Fault::Write) => {
-            tell_write_fault(alloc, output, faults);
-            status(&Fault::Write)
-        }
         Err(fault) => {
-            tell_fault(alloc, &fault, faults);
+            tell_unshown(alloc, &fault, output, faults);
             status(&fault)
         }
+    }
+}
+
+/// Tells why clap's text could not be written, but not that a write failed where what reads the output hung up.
+fn tell_unshown<W: Output, E: Writer>(alloc: Global, fault: &Fault, output: &W, faults: &mut E)
+    ensures { TellsUnshown E.contents E.has_failed fault.now (W.hung_up output.now)
+        faults.old faults.new }
+{
+    match fault {
+        Fault::Write => tell_write_fault(alloc, output, faults),
+        _ => tell_fault(alloc, fault, faults),
     }
 }

@@ -1,7 +1,6 @@
 //! A run over the lines of an input.
 
 ghost use Rattle.std.specs.Prelude.{◌≡◌, []};
-ghost use Rattle.jp_check.specs.declared.profile.Profile.{Profile};
 ghost use Rattle.jp_tree.specs.Views.{query_of};
 ghost use Rattle.jp_lines.specs.Private.Answers.{HasPlan};
 ghost use Rattle.jp_lines.specs.Private.Asking.{RunsAsked};
@@ -18,7 +17,7 @@ use crate::passing::{Progress, end_line, pass};
 use crate::stop::Stop;
 use crate::tally::Tally;
 use crate::task::{Selection, Task};
-use jp_check::{Checked, Profile};
+use jp_check::Checked;
 use jp_command::{Fault, Output, Source, Writer, chunk_buffer, read_within_limit};
 use jp_evaluate::Plan;
 use std::alloc::Global;
@@ -26,7 +25,7 @@ use std::alloc::Global;
 /// How often an input is read at most, which is more often than any run can.
 const READS: u64 = u64::MAX;
 
-/// Runs `query`, read in that profile, over the lines of `input`, each of which is one document
+/// Runs `query`, read in the profile of the options, over the lines of `input`, each of which is one document
 /// (JSON Lines, NDJSON). A line of blanks alone, or of nothing, holds none and is passed over. For
 /// each document in turn, what is `wanted` is written before the next line is read from what
 /// came; one document is in memory at a time, or so much of it as the query asks for: where it names a
@@ -47,18 +46,17 @@ const READS: u64 = u64::MAX;
 pub fn run_lines<R: Source, W: Output, E: Writer>(
     alloc: Global,
     query: &str,
-    profile: Profile,
     wanted: Wanted,
     options: Options,
     input: &mut R,
     output: &mut W,
     faults: &mut E,
 ) -> Result<Tally, Stop>
-    ensures { RunsLines profile options R.remaining R.has_failed R.read_gives
+    ensures { RunsLines options R.remaining R.has_failed R.read_gives
         W.contents W.has_failed E.contents E.has_failed (SelectBy wanted Extent.All query.now)
         input.old input.new output.old output.new faults.old faults.new result }
 {
-    let query = read_within_limit(alloc, query, profile).map_err(Fault::from)?;
+    let query = read_within_limit(alloc, query, options.profile).map_err(Fault::from)?;
     run_selected(
         alloc,
         wanted,
@@ -82,9 +80,9 @@ fn run_selected<R: Source, W: Output, E: Writer>(
     output: &mut W,
     faults: &mut E,
 ) -> Result<Tally, Stop>
-    ensures { (profile : Profile) (request : Request)
-        → IsTaskOf profile request (Select wanted extent (query_of query.now.query))
-        → RunsAsked profile options R.remaining R.has_failed R.read_gives
+    ensures { (request : Request)
+        → IsTaskOf options.profile request (Select wanted extent (query_of query.now.query))
+        → RunsAsked options R.remaining R.has_failed R.read_gives
         W.contents W.has_failed E.contents E.has_failed request
         input.old input.new output.old output.new faults.old faults.new result }
 {
@@ -113,9 +111,9 @@ fn pass_alone<R: Source, W: Output, E: Writer>(
 ) -> Result<Tally, Stop>
     requires plan { HasPlan asked.task }
     requires alone { asked.lead.now ≡ [] }
-    ensures { (profile : Profile) (request : Request)
-        → IsTaskOf profile request (task_of asked.entry.task)
-        → RunsAsked profile asked.entry.options R.remaining R.has_failed R.read_gives
+    ensures { (request : Request)
+        → IsTaskOf asked.entry.options.profile request (task_of asked.entry.task)
+        → RunsAsked asked.entry.options R.remaining R.has_failed R.read_gives
         W.contents W.has_failed E.contents E.has_failed request
         input.old input.new output.old output.new faults.old faults.new result }
 {

@@ -62,7 +62,7 @@ fn run_selected<'w, I: Inputs, W: Output, E: Writer>(
         (record (job_of job.now) { request = SelectBy wanted extent text.now }) inputs.old inputs.new output.old output.new faults.old faults.new
         result }
 {
-    let query = read_query(alloc, text, job.profile)?;
+    let query = read_query(alloc, text, job.options.profile)?;
     let plan = Plan::of(alloc, &query)?;
     let selection = Selection {
         wanted,
@@ -87,7 +87,7 @@ fn run_kept<'w, I: Inputs, W: Output, E: Writer>(
         (record (job_of job.now) { request = KeepBy text.now }) inputs.old inputs.new output.old output.new faults.old faults.new
         result }
 {
-    let filter = read_keeping(alloc, text, job.profile)?;
+    let filter = read_keeping(alloc, text, job.options.profile)?;
     let plan = Plan::of_test(alloc, &filter)?;
     let keeping = Keeping {
         filter: &filter,
@@ -112,7 +112,7 @@ fn run_columns<'w, I: Inputs, W: Output, E: Writer>(
         (record (job_of job.now) { request = ColumnsBy style named (map (λ t. t.now) texts.now) }) inputs.old inputs.new output.old output.new faults.old faults.new
         result }
 {
-    let queries = read_all(alloc, texts, job.profile)?;
+    let queries = read_all(alloc, texts, job.options.profile)?;
     let plan = Plan::of_all(alloc, &queries)?;
     write_names(alloc, style, named, job.options.numbered, texts, output)?;
     let columns = Columns {

@@ -2,7 +2,7 @@
 
 use crate::options::{Extent, Options, Wanted};
 use jp_cells::Style;
-use jp_check::{Checked, CheckedFilter, Profile};
+use jp_check::{Checked, CheckedFilter};
 use jp_evaluate::Plan;
 
 /// What is asked of each document, in the texts of the words.
@@ -20,15 +20,13 @@ pub enum Request<'w> {
 /// What the words of a command line ask for.
 #[derive(Drop)]
 pub struct Job<'w> {
-    /// How the run goes over the lines of its inputs.
+    /// How the run goes over the lines of its inputs, and in which profile.
     pub options: Options,
     /// What is asked of each document.
     pub request: Request<'w>,
     /// The names of the inputs, in order, `-` for the standard input; none where none is named, which
     /// means the standard input alone.
     pub inputs: Vec<&'w str>,
-    /// The profile of jp_check in which queries and expressions are read.
-    pub profile: Profile,
 }
 
 /// What a run does with each document.

@@ -83,7 +83,7 @@ fn refuse<E: Writer>(
     defect: Defect,
     faults: &mut E,
 ) -> Result<(), Stop>
-    requires { IsDefectOfBytes kept.now defect }
+    requires { IsDefectOfBytes asked.options.profile kept.now defect }
     ensures told { OnOk result ((line : RefusedLine)
         × IsRefusal asked.entry.options number kept.now defect line
         × Tells E.contents E.has_failed faults.old faults.new (told_of_all asked.entry.lead.now

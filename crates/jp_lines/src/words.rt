@@ -29,11 +29,11 @@ fn wanted_named(name: &str, raw: bool) -> Option<Wanted>
     ensures { result ≡ wanted_called name.now raw }
 {
     match name {
-        "eval" if raw => Some(Wanted::Nodes(Form::RawValues)),
-        "eval" => Some(Wanted::Nodes(Form::Values)),
-        "paths" => Some(Wanted::Nodes(Form::Paths)),
-        "both" if raw => Some(Wanted::Nodes(Form::RawBoth)),
-        "both" => Some(Wanted::Nodes(Form::Both)),
+        "eval" if raw => Some(Wanted::Nodes(Form::RAW_VALUES)),
+        "eval" => Some(Wanted::Nodes(Form::VALUES)),
+        "paths" => Some(Wanted::Nodes(Form::PATHS)),
+        "both" if raw => Some(Wanted::Nodes(Form::RAW_BOTH)),
+        "both" => Some(Wanted::Nodes(Form::BOTH)),
         "count" => Some(Wanted::Count),
         _ => None,
     }
@@ -73,6 +73,7 @@ fn options_asked(found: &ArgMatches) -> Options
     ensures { result ≡ options_asked (rows_of (found_of found.now)) }
 {
     Options {
+        profile: profile_asked(found),
         numbered: is_set(found, "number"),
         keep_going: is_set(found, "keep-going"),
         line_buffered: is_set(found, "line-buffered"),
@@ -257,7 +258,6 @@ fn asked_by<'w>(
         options: options_asked(found),
         request,
         inputs,
-        profile: profile_asked(found),
     }))
 }
 

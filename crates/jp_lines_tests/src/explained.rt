@@ -178,6 +178,7 @@ fn assert_second(
     size: usize,
 ) -> Result<(), AllocError> {
     let options = Options {
+        profile: Standard,
         numbered: false,
         keep_going: true,
         line_buffered: false,
@@ -199,7 +200,6 @@ fn assert_second(
     let ended = run_lines(
         alloc,
         "$",
-        Standard,
         Wanted::Count,
         options,
         &mut Device::new(input),

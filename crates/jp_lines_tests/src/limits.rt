@@ -138,6 +138,7 @@ fn ends_a_query_that_would_go_on_for_hours(rt: HostRuntime) -> Result<(), AllocE
 #[test]
 fn tells_how_many_steps_were_made(rt: HostRuntime) -> Result<(), AllocError> {
     let options = Options {
+        profile: Standard,
         numbered: false,
         keep_going: false,
         line_buffered: false,
@@ -152,8 +153,7 @@ fn tells_how_many_steps_were_made(rt: HostRuntime) -> Result<(), AllocError> {
     let run = run_lines(
         rt.alloc(),
         "$.*",
-        Standard,
-        Wanted::Nodes(Form::Values),
+        Wanted::Nodes(Form::VALUES),
         options,
         &mut Device::new(LISTS.as_bytes()),
         &mut Device::new(&mut output),

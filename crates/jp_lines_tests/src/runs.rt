@@ -12,9 +12,10 @@ use std::process::Abort;
 type Way = (Wanted, Options);
 
 /// Values, and nothing else asked for.
-const VALUES: Way = (Wanted::Nodes(Form::Values), PLAIN);
+const VALUES: Way = (Wanted::Nodes(Form::VALUES), PLAIN);
 
 const PLAIN: Options = Options {
+    profile: Standard,
     numbered: false,
     keep_going: false,
     line_buffered: false,
@@ -31,7 +32,7 @@ const PLAIN: Options = Options {
 
 /// Numbered values of a run that goes on.
 const NUMBERED: Way = (
-    Wanted::Nodes(Form::Values),
+    Wanted::Nodes(Form::VALUES),
     Options {
         numbered: true,
         keep_going: true,
@@ -92,7 +93,6 @@ fn assert_says(
     let run = run_lines(
         alloc,
         "$..a",
-        Standard,
         wanted,
         options,
         &mut Device::new(Trickle {
@@ -257,7 +257,6 @@ fn refuses_a_line_before_its_end_where_that_is_too_far(rt: HostRuntime) {
     let run = run_lines(
         rt.alloc(),
         "$",
-        Standard,
         VALUES.0,
         VALUES.1,
         &mut Device::new(&mut endless),
@@ -338,7 +337,6 @@ fn refuses_a_query_before_it_reads(rt: HostRuntime) -> Result<(), AllocError> {
     let run = run_lines(
         rt.alloc(),
         "$[?distinct(@.*)]",
-        Standard,
         VALUES.0,
         VALUES.1,
         &mut Device::new(&mut input),

@@ -2,6 +2,7 @@
 
 use super::programs::words;
 use clap::error::ErrorKind;
+use jp_check::Profile::Standard;
 use jp_command::Form;
 use jp_limit::OutputLimit;
 use jp_lines::{Job, Options, Request, Wanted, read_words};
@@ -11,6 +12,7 @@ use std::test::Fail;
 
 /// What no flag asks for.
 const PLAIN: Options = Options {
+    profile: Standard,
     numbered: false,
     keep_going: false,
     line_buffered: false,
@@ -144,19 +146,19 @@ fn flags_ask_for_raw_texts_a_summary_and_few_reports(rt: HostRuntime) -> Result<
                 "--max-bytes",
                 "18446744073709551615",
             ],
-            Form::Values,
+            Form::VALUES,
             small,
         ),
-        (&["jp-lines", "eval", "--raw", "$"], Form::RawValues, PLAIN),
-        (&["jp-lines", "both", "$", "--raw"], Form::RawBoth, PLAIN),
+        (&["jp-lines", "eval", "--raw", "$"], Form::RAW_VALUES, PLAIN),
+        (&["jp-lines", "both", "$", "--raw"], Form::RAW_BOTH, PLAIN),
         (
             &["jp-lines", "eval", "$", "--summary"],
-            Form::Values,
+            Form::VALUES,
             summed,
         ),
         (
             &["jp-lines", "both", "--keep-going", "--reports", "0", "$"],
-            Form::Both,
+            Form::BOTH,
             silent,
         ),
         (
@@ -167,7 +169,7 @@ fn flags_ask_for_raw_texts_a_summary_and_few_reports(rt: HostRuntime) -> Result<
                 "--reports=18446744073709551615",
                 "--limit=1",
             ],
-            Form::Paths,
+            Form::PATHS,
             most,
         ),
     ];

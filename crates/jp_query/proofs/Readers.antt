@@ -2,6 +2,6 @@
 pub mod ArgumentParts
 pub mod Exits
 pub mod HexKinds
+pub mod Integers
 pub mod Openings
 pub mod Rounds
-pub mod WordsAndDigits

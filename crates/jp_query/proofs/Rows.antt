@@ -1,6 +1,8 @@
 -- Worked rows: what the definitions say of small texts and filters.
 use Rattle.std.proofs.Common.{◌≡◌, true, false, [], ◌∷◌, Some, refl, None, ℕ, Option}
 use Rattle.std.specs.Prelude.{pos, negsuc, codes}
+use Rattle.std.specs.Float.Numeral.{scan_numeral}
+use Rattle.jp_decimal.specs.declared.number.Number.TheVariants.{Whole as AsWhole}
 use Rattle.jp_tree.specs.declared.tree.Numeral.TheVariants.{Whole, Beyond, Fraction}
 use Rattle.jp_reading.specs.Texts.{is_blank}
 use Rattle.jp_reading.specs.Outcome.{past_blanks, loop, stuck, deep}
@@ -39,9 +41,9 @@ plain-rows = (refl, refl, refl, refl, refl)
 
 -- the ends of the range
 range-rows : (whole_of 18446744073709551615 ≡ Whole (pos 18446744073709551615))
-    × (whole_of 18446744073709551616 ≡ Beyond)
+    × (whole_of 18446744073709551616 ≡ Beyond None)
     × (negative_of 9223372036854775808 ≡ Whole (negsuc 9223372036854775807))
-    × (negative_of 9223372036854775809 ≡ Beyond)
+    × (negative_of 9223372036854775809 ≡ Beyond None)
 range-rows = (refl, refl, refl, refl)
 
 -- a span
@@ -130,7 +132,7 @@ abbrev compared : QueryTree
 compared =
     filtered_by (all_of (exprs
     (comparison (literal (number (Whole (pos 0)))) LessEqual (node_value member_a)
-    ∷ comparison (node_value here) Equal (literal (number Fraction)) ∷ [])))
+    ∷ comparison (node_value here) Equal (literal (number (Fraction (Some (AsWhole (pos 1)))))) ∷ [])))
 
 -- a filter takes a level, and a parenthesis another one; each side and each test is a component
 filter-rows : Spells 1 test (at_bytes 3 4 ∷ []) (codes "$[?@]")
@@ -145,7 +147,7 @@ unfolding query_at rule.query rule.segments rule.segment rule.bracket rule.entri
     rule.closed rule.negated rule.negation_on rule.basic rule.inside_expression rule.conjunction
     rule.expression
     rule.operator rule.plain_literal rule.number rule.mantissa rule.decimals rule.exponent
-    rule.power rule.digits rule.int rule.unsigned rule.size past_blanks loop is_blank is_digit
+    rule.power rule.digits rule.int_digits scan_numeral past_blanks loop is_blank is_digit
 filter-rows = (
   read-spells 1 (codes "$[?@]") test (finish (codes "$[?@]") (at_bytes 3 4 ∷ [])) refl,
   read-spells 2 (codes "$[?!(@)]") negated (finish (codes "$[?!(@)]") (at_bytes 5 6 ∷ [])) refl,
@@ -188,7 +190,7 @@ unfolding query_at rule.query rule.segments rule.segment rule.bracket rule.entri
     rule.closed rule.negated rule.negation_on rule.basic rule.inside_expression rule.conjunction
     rule.expression
     rule.operator rule.plain_literal rule.number rule.mantissa rule.decimals rule.exponent
-    rule.power rule.digits rule.int rule.unsigned rule.size past_blanks loop is_blank is_digit
+    rule.power rule.digits rule.int_digits scan_numeral past_blanks loop is_blank is_digit
 refused_filter-rows = (refl, refl, refl, refl, refl, refl)
 
 -- the expression of a filter alone takes no level of its own, and ends before a comma or a bracket
@@ -217,7 +219,7 @@ expression-rows = (
 -- the components of `$[10]`, and of comparisons
 components-rows : (components_of ten ≡ int (Whole (pos 10)) as_index ∷ [])
     × (components_of compared ≡ constant (number (Whole (pos 0))) as_side ∷ inner member_a as_side
-    ∷ inner here as_side ∷ constant (number Fraction) as_side ∷ [])
+    ∷ inner here as_side ∷ constant (number (Fraction (Some (AsWhole (pos 1))))) as_side ∷ [])
 components-rows = (refl, refl)
 
 -- `@.a` is singular, and `$[?@]` is not

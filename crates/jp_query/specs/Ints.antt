@@ -1,6 +1,6 @@
 -- The whole numbers of queries (RFC 9535 section 2.3.3.1).
 use Rattle.std.specs.Prelude.{◌≡◌, ℕ, ◌^◌, pos, neg_ℤ, nat_le, nat_lt, if◌then◌else◌}
-use Rattle.std.specs.Prelude.{◌∷◌, codes}
+use Rattle.std.specs.Prelude.{◌∷◌, None, codes}
 use Rattle.jp_tree.specs.declared.tree.Numeral.{Numeral}
 use Rattle.jp_tree.specs.declared.tree.Numeral.TheVariants.{Whole, Beyond}
 use Rattle.jp_reading.specs.Texts.{Text, Spans}
@@ -9,11 +9,11 @@ use Rattle.jp_reading.specs.Numbers.{is_digit, value_from, is_leading_digit}
 
 -- the whole number of that size, or that it is outside -(2^63) to (2^64)-1
 abbrev pub whole_of : ℕ → Numeral
-whole_of size = if nat_lt size (2 ^ 64) then Whole (pos size) else Beyond
+whole_of size = if nat_lt size (2 ^ 64) then Whole (pos size) else Beyond None
 
 -- the same for the number below zero of that size
 abbrev pub negative_of : ℕ → Numeral
-negative_of size = if nat_le size (2 ^ 63) then Whole (neg_ℤ (pos size)) else Beyond
+negative_of size = if nat_le size (2 ^ 63) then Whole (neg_ℤ (pos size)) else Beyond None
 
 -- DIGIT1 *DIGIT: the digits c and more, without a leading zero
 abbrev pub Unsigned : ℕ → Text → Form

@@ -1,7 +1,13 @@
 -- Literals, and the operators of comparisons (RFC 9535 section 2.3.5.1).
 use Rattle.std.specs.Prelude.{◌≡◌, ℕ, Bool, true, false, ◌||◌, ◌==◌, if◌then◌else◌, [], codes}
+use Rattle.std.specs.Prelude.{Option, Some, None}
+use Rattle.jp_decimal.specs.NormalForm.{normal_form}
+use Rattle.jp_decimal.specs.TextValue.{value_of_text}
+use Rattle.jp_decimal.specs.declared.number.Decimal.{Decimal}
+use Rattle.jp_decimal.specs.declared.number.Number.{Number as HeldNumber}
+use Rattle.jp_decimal.specs.declared.number.Number.TheVariants.{Decimal as AsDecimal}
 use Rattle.jp_tree.specs.declared.tree.Numeral.{Numeral}
-use Rattle.jp_tree.specs.declared.tree.Numeral.TheVariants.{Fraction}
+use Rattle.jp_tree.specs.declared.tree.Numeral.TheVariants.{Whole, Beyond, Fraction}
 use Rattle.jp_tree.specs.declared.tree.Op.{Op}
 use Rattle.jp_tree.specs.declared.tree.Op.TheVariants.{Equal, Unequal, Less, LessEqual, Greater}
 use Rattle.jp_tree.specs.declared.tree.Op.TheVariants.{GreaterEqual}
@@ -46,14 +52,31 @@ pub data Mantissa (x : Numeral) (s : Spans) (o : ℕ) (t : Text) : Type 0 where
   whole : Int x s o t → Mantissa x s o t
   minus_zero : x ≡ whole_of 0 → word (codes "-0") s o t → Mantissa x s o t
 
--- what a number is held as: one with a fraction or an exponent as such, whatever its value
-abbrev pub numeral : Numeral → Bool → Bool → Numeral
-numeral x has_decimals has_exponent = if has_decimals || has_exponent then Fraction else x
+-- the number that the text of a number writes (RFC 8259 section 6, whose numbers are the same texts),
+-- in the form that numbers are held in, if it can be held
+abbrev pub number_in : Text → Option HeldNumber
+number_in t = normal_form (value_of_text t)
+
+-- the decimal that a number is, if it is one
+abbrev pub decimal_in : Option HeldNumber → Option Decimal
+decimal_in (Some (AsDecimal d)) = Some d
+decimal_in _ = None
+
+-- a whole number of 64 bits is that, and another one the decimal that is written
+abbrev pub integer : Numeral → Option HeldNumber → Numeral
+integer (Whole z) n = Whole z
+integer _ n = Beyond (decimal_in n)
+
+-- what a number is held as: one with a fraction or an exponent by what is written, also where that is
+-- a whole number
+abbrev pub numeral : Numeral → Bool → Bool → Option HeldNumber → Numeral
+numeral x has_decimals has_exponent n =
+    if has_decimals || has_exponent then Fraction n else integer x n
 
 -- number: (int / "-0") [ frac ] [ exp ]
 pub data Number (x : Numeral) (s : Spans) (o : ℕ) (t : Text) : Type 0 where
   number : (y : Numeral) (has_decimals has_exponent : Bool)
-      → x ≡ numeral y has_decimals has_exponent
+      → x ≡ numeral y has_decimals has_exponent (number_in t)
       → (Mantissa y ⌢ Optional Decimals has_decimals ⌢ Optional Exponent has_exponent) s o t
       → Number x s o t
 

@@ -2,6 +2,7 @@
 -- contracts of private functions alone cite it.
 pub mod HexDigits
 pub mod NameCharacters
+pub mod Numerals
 pub mod Parsed
 pub mod Parts
 pub mod Reading

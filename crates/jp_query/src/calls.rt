@@ -5,20 +5,20 @@ ghost use Rattle.std.specs.Str.{chars};
 ghost use Rattle.std.specs.String.{string_bytes};
 ghost use Rattle.jp_reading.specs.Outcome.{after_blank, passes};
 ghost use Rattle.jp_reading.specs.Views.{Gives, outcome_map};
-ghost use Rattle.jp_tree.specs.Views.{argument_of, call_of, operand_of};
+ghost use Rattle.jp_tree.specs.Views.{argument_of, call_of};
 ghost use Rattle.jp_query.specs.Private.Rules as rules;
 ghost use Rattle.jp_query.specs.Private.Rules.{is_logical};
-ghost use Rattle.jp_query.specs.Private.Parts.{begins_part, boxed_argument, boxed_expr};
+ghost use Rattle.jp_query.specs.Private.Parts.{begins_part, boxed_argument, boxed_expr, boxed_operand};
 ghost use Rattle.jp_query.specs.Private.Parts.{first_argument, logical_at, rest_of_call};
 ghost use Rattle.jp_query.specs.Private.Reading.{call_inside, read_inside};
 
-use crate::expressions::{Connective, comparison, joined_from, negation, parenthesis, tested};
+use crate::expressions::{Connective, comparison, joined_from, negation, parenthesis};
 use crate::lists::{append_boxed, boxed};
 use crate::names::{NameCharacter, name_from};
 use crate::operators::is_before_operator;
-use crate::sides::side;
+use crate::sides::{Uncompared, side, uncompared_side};
 use jp_reading::{Reader, Stop};
-use jp_tree::{Argument, Call, Expr, FunctionName, Literal, Operand, Query, Subject};
+use jp_tree::{Argument, Call, Expr, FunctionName, Operand};
 use std::alloc::{AllocError, Global};
 
 /// A function expression.
@@ -152,9 +152,7 @@ fn is_logical(argument: &Argument) -> bool
 
 /// The first part of an argument.
 enum FirstPart {
-    Literal(Literal),
-    Query(Query),
-    Call(Call),
+    Side(Box<Operand>),
     Logical(Box<Expr>),
 }
 
@@ -183,22 +181,22 @@ fn argument_start(reader: &mut Reader, levels: u32) -> Result<FirstPart, Stop>
 
 /// What goes on from the first side of an argument: a comparison, or nothing.
 #[cycle(nested)]
-fn compared_or_alone(reader: &mut Reader, levels: u32, first: Operand) -> Result<FirstPart, Stop>
+fn compared_or_alone(
+    reader: &mut Reader,
+    levels: u32,
+    first: Box<Operand>,
+) -> Result<FirstPart, Stop>
     ensures { Gives
         first_argument
         result
         reader.new
-        (read_inside levels (rules.compared_or_alone (operand_of first)) reader.old) }
+        (read_inside levels (rules.compared_or_alone (boxed_operand first)) reader.old) }
 {
     if is_before_operator(reader) {
         reader.skip();
         return Ok(FirstPart::Logical(comparison(reader, levels, first)?));
     }
-    match first {
-        Operand::Literal(literal) => Ok(FirstPart::Literal(literal)),
-        Operand::Query(query) => Ok(FirstPart::Query(query)),
-        Operand::Call(call) => Ok(FirstPart::Call(call)),
-    }
+    Ok(FirstPart::Side(first))
 }
 
 /// An argument from its first part on: a literal is no part of a logical expression.
@@ -214,14 +212,9 @@ fn argument_from(reader: &mut Reader, levels: u32, first: FirstPart) -> Result<B
         return Ok(alone(reader.alloc(), first)?);
     }
     match first {
-        FirstPart::Literal(literal) => Ok(alone(reader.alloc(), FirstPart::Literal(literal))?),
-        FirstPart::Query(query) => {
-            let test = tested(reader.alloc(), Subject::Query(query))?;
-            logical(reader, levels, test)
-        },
-        FirstPart::Call(call) => {
-            let test = tested(reader.alloc(), Subject::Call(call))?;
-            logical(reader, levels, test)
+        FirstPart::Side(side) => match uncompared_side(reader.alloc(), side)? {
+            Uncompared::Literal(literal) => Ok(alone(reader.alloc(), FirstPart::Side(literal))?),
+            Uncompared::Test(test) => logical(reader, levels, test),
         },
         FirstPart::Logical(expr) => logical(reader, levels, expr),
     }
@@ -233,10 +226,19 @@ fn alone(alloc: Global, part: FirstPart) -> Result<Box<Argument>, AllocError>
     ensures { IfOk result (λ b. boxed_argument b ≡ first_argument part) }
 {
     match part {
-        FirstPart::Literal(literal) => boxed(alloc, Argument::Literal(literal)),
-        FirstPart::Query(query) => boxed(alloc, Argument::Query(query)),
-        FirstPart::Call(call) => boxed(alloc, Argument::Call(call)),
+        FirstPart::Side(side) => uncompared_argument(alloc, side),
         FirstPart::Logical(expr) => boxed(alloc, Argument::Logical(Box::into_inner(expr))),
+    }
+}
+
+/// The argument that the side is.
+fn uncompared_argument(alloc: Global, side: Box<Operand>) -> Result<Box<Argument>, AllocError>
+    ensures { IfOk result (λ b. boxed_argument b ≡ rules.argument_alone (boxed_operand side)) }
+{
+    match Box::into_inner(side) {
+        Operand::Literal(literal) => boxed(alloc, Argument::Literal(literal)),
+        Operand::Query(query) => boxed(alloc, Argument::Query(query)),
+        Operand::Call(call) => boxed(alloc, Argument::Call(call)),
     }
 }
 

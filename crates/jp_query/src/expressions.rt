@@ -4,9 +4,9 @@ ghost use Rattle.std.specs.Prelude.{◌≡◌, map, IfOk};
 ghost use Rattle.jp_reading.specs.Outcome.{after_blank, is, passes};
 ghost use Rattle.jp_reading.specs.Views.{Gives};
 ghost use Rattle.jp_tree.specs.Tree.{comparison, exprs, negation};
-ghost use Rattle.jp_tree.specs.Views.{expr_of, operand_of, subject_of};
-ghost use Rattle.jp_query.specs.Private.Parts.{boxed_expr, joined_at, character_of, part_of};
-ghost use Rattle.jp_query.specs.Private.Parts.{several};
+ghost use Rattle.jp_tree.specs.Views.{expr_of, subject_of};
+ghost use Rattle.jp_query.specs.Private.Parts.{boxed_expr, boxed_operand, joined_at, character_of};
+ghost use Rattle.jp_query.specs.Private.Parts.{part_of, several};
 ghost use Rattle.jp_query.specs.Private.Rules as rules;
 ghost use Rattle.jp_query.specs.Private.Reading.{filter_at, inside, parenthesis_at, read_flat, read_inside};
 
@@ -15,7 +15,7 @@ use crate::lists::{append_boxed, boxed};
 use crate::names::is_at_function;
 use crate::operators::{is_before_operator, operator};
 use crate::segments::end;
-use crate::sides::{query_within, side};
+use crate::sides::{Uncompared, query_within, side, uncompared_side};
 use jp_reading::{Reader, Stop};
 use jp_tree::{Expr, Op, Operand, Subject};
 use std::alloc::{AllocError, Global};
@@ -263,23 +263,26 @@ pub(crate) fn parenthesis(reader: &mut Reader, levels: u32) -> Result<Box<Expr>,
 
 /// What goes on from the first side: a literal has to be compared, all else may be a test.
 #[cycle(nested)]
-fn compared_or_test(reader: &mut Reader, levels: u32, first: Operand) -> Result<Box<Expr>, Stop>
+fn compared_or_test(
+    reader: &mut Reader,
+    levels: u32,
+    first: Box<Operand>,
+) -> Result<Box<Expr>, Stop>
     ensures { Gives
         boxed_expr
         result
         reader.new
-        (read_inside levels (rules.compared_or_test (operand_of first)) reader.old) }
+        (read_inside levels (rules.compared_or_test (boxed_operand first)) reader.old) }
 {
     if is_before_operator(reader) {
         reader.skip();
         return comparison(reader, levels, first);
     }
-    match first {
-        Operand::Query(query) => Ok(tested(reader.alloc(), Subject::Query(query))?),
-        Operand::Call(call) => Ok(tested(reader.alloc(), Subject::Call(call))?),
-        Operand::Literal(literal) => {
+    match uncompared_side(reader.alloc(), first)? {
+        Uncompared::Test(test) => Ok(test),
+        Uncompared::Literal(literal) => {
             reader.skip();
-            comparison(reader, levels, Operand::Literal(literal))
+            comparison(reader, levels, literal)
         },
     }
 }
@@ -287,12 +290,16 @@ fn compared_or_test(reader: &mut Reader, levels: u32, first: Operand) -> Result<
 /// An operator and the second side of a comparison, after the first.
 #[cycle(nested)]
 #[tactic(auto, unfolding(crate::specs::Private::Rules::comparison_with))]
-pub(crate) fn comparison(reader: &mut Reader, levels: u32, left: Operand) -> Result<Box<Expr>, Stop>
+pub(crate) fn comparison(
+    reader: &mut Reader,
+    levels: u32,
+    left: Box<Operand>,
+) -> Result<Box<Expr>, Stop>
     ensures { Gives
         boxed_expr
         result
         reader.new
-        (read_inside levels (rules.comparison_with (operand_of left)) reader.old) }
+        (read_inside levels (rules.comparison_with (boxed_operand left)) reader.old) }
 {
     let op = operator(reader)?;
     reader.skip();
@@ -302,10 +309,17 @@ pub(crate) fn comparison(reader: &mut Reader, levels: u32, left: Operand) -> Res
 
 /// The comparison of two sides.
 #[inline(never)]
-fn compared(alloc: Global, left: Operand, op: Op, right: Operand) -> Result<Box<Expr>, AllocError>
+fn compared(
+    alloc: Global,
+    left: Box<Operand>,
+    op: Op,
+    right: Box<Operand>,
+) -> Result<Box<Expr>, AllocError>
     ensures { IfOk
         result
-        (λ b. boxed_expr b ≡ comparison (operand_of left) op (operand_of right)) }
+        (λ b. boxed_expr b ≡ comparison (boxed_operand left) op (boxed_operand right)) }
 {
+    let left = Box::into_inner(left);
+    let right = Box::into_inner(right);
     boxed(alloc, Expr::Compare { left, op, right })
 }

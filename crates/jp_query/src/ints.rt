@@ -1,6 +1,6 @@
 //! Whole numbers (RFC 9535 section 2.3.3.1).
 
-ghost use Rattle.std.specs.Prelude.{◌≡◌, ◌^◌, ◌<◌, min};
+ghost use Rattle.std.specs.Prelude.{◌≡◌, ◌^◌, ◌≤◌, min, IsTrue};
 ghost use Rattle.jp_reading.specs.Outcome.{passes};
 ghost use Rattle.jp_reading.specs.Rule.{component};
 ghost use Rattle.jp_reading.specs.Views.{Gives, outcome_map};
@@ -45,7 +45,7 @@ fn int(reader: &mut Reader) -> Result<Numeral, Stop>
 
 /// A whole number without a sign.
 #[tactic(auto, using(crate::proofs::CappedIntegers::sizes), unfolding(crate::specs::Private::Rules::unsigned))]
-pub(crate) fn unsigned(reader: &mut Reader) -> Result<Numeral, Stop>
+fn unsigned(reader: &mut Reader) -> Result<Numeral, Stop>
     ensures { Gives (λ x. x) result reader.new (read_flat rules.unsigned reader.old) }
 {
     if reader.is_at('0') {
@@ -57,7 +57,7 @@ pub(crate) fn unsigned(reader: &mut Reader) -> Result<Numeral, Stop>
 
 /// The number that digits without a leading zero write, or 2^64 where it is larger.
 #[tactic(auto, unfolding(crate::specs::Private::Rules::size))]
-pub(crate) fn size(reader: &mut Reader) -> Result<u128, Stop>
+fn size(reader: &mut Reader) -> Result<u128, Stop>
     ensures { Gives
         (λ n. n)
         result
@@ -71,8 +71,9 @@ pub(crate) fn size(reader: &mut Reader) -> Result<u128, Stop>
 }
 
 /// Whether a character may begin a whole number other than zero (section 2.3.3.1, DIGIT1).
-fn is_leading_digit(c: char) -> bool
-    ensures { result ≡ is_leading_digit c }
+pub(crate) fn is_leading_digit(c: char) -> bool
+    ensures test { result ≡ is_leading_digit c }
+    ensures range { IsTrue result → (49 ≤ c) × (c ≤ 57) }
 {
     matches!(c, '1'..='9')
 }
@@ -84,17 +85,17 @@ fn whole(size: u128) -> Numeral
     if size < 1 << 64 {
         Numeral::Whole(size as i128)
     } else {
-        Numeral::Beyond
+        Numeral::Beyond(None)
     }
 }
 
 /// The number below zero of that size.
-pub(crate) fn negative(size: u128) -> Numeral
+fn negative(size: u128) -> Numeral
     ensures { result ≡ negative_of size }
 {
     if size <= 1 << 63 {
         Numeral::Whole(-(size as i128))
     } else {
-        Numeral::Beyond
+        Numeral::Beyond(None)
     }
 }

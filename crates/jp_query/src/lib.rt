@@ -20,6 +20,7 @@ pub mod laws;
 mod lists;
 mod literals;
 mod names;
+mod numbers;
 mod operators;
 mod parsed;
 mod parsed_filter;

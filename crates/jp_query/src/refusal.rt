@@ -23,9 +23,10 @@ pub enum RefusalKind {
     /// More filters, parentheses and calls are inside one another than `LEVEL_LIMIT`: at the `?` or
     /// `(` of the level too many, or at the character by which a word is a function's name.
     TooDeep,
-    /// A literal with a fraction or an exponent.
+    /// A literal with a fraction or an exponent, where numbers are whole.
     NotWhole,
-    /// A whole literal outside -(2^63) to (2^64)-1.
+    /// A literal that can't be held: where numbers are whole, one outside -(2^63) to (2^64)-1; where they
+    /// are decimals, one that has more than 38 digits, or whose power of ten is out of range.
     NumberRange,
     /// An index or a part of a slice outside -(2^53)+1 to (2^53)-1 (RFC 9535 section 2.1).
     IndexRange,

@@ -59,7 +59,7 @@ candidates_stand (name cs) v document =
 candidates_stand wildcard v document = entries_stand v document
 candidates_stand (index (Whole i)) v document =
     item_stands v (option_and_then (λ n. item_at n i) (list_length v))
-candidates_stand (index Beyond) v document = All-nil (StandsBelow v)
-candidates_stand (index Fraction) v document = All-nil (StandsBelow v)
+candidates_stand (index (Beyond d)) v document = All-nil (StandsBelow v)
+candidates_stand (index (Fraction n)) v document = All-nil (StandsBelow v)
 candidates_stand (slice s) v document = slice_stands v (indexes_chosen s) (list_length v)
 candidates_stand (filter e) v document = entries_stand v document

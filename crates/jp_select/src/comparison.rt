@@ -113,6 +113,43 @@ fn compare_any<'a, V: Lent + 'a>(
     compare(op, Comparable::of(left), Comparable::of(right), steps)
 }
 
+/// Whether the comparison `left op right` is true of a value that is lent, where None is Nothing, and a
+/// whole number. It answers as `compare` does and takes as many steps. A whole number, as most such values
+/// are, does not go to memory for it.
+#[inline(always)]
+pub fn compare_to_whole<'a, V: Lent + 'a>(
+    op: Op,
+    left: Option<V>,
+    right: i128,
+    steps: &mut Steps,
+) -> Result<bool, Stopped>
+    ensures value { IfOk result (λ answer. answer ≡ compared op (option_map V.meaning left)
+        (Some (whole right))) }
+    ensures takes { Takes steps.old steps.new }
+    ensures stopped { OnErr result (IsSpent steps.new) }
+{
+    match whole_of(left) {
+        Some(left) => compare_whole(op, left, right, steps),
+        None => compare_any_to_whole(op, left, right, steps),
+    }
+}
+
+/// `compare_to_whole` of values of any kind. It stands apart, so that what is inlined stays small.
+#[inline(never)]
+fn compare_any_to_whole<'a, V: Lent + 'a>(
+    op: Op,
+    left: Option<V>,
+    right: i128,
+    steps: &mut Steps,
+) -> Result<bool, Stopped>
+    ensures value { IfOk result (λ answer. answer ≡ compared op (option_map V.meaning left)
+        (Some (whole right))) }
+    ensures takes { Takes steps.old steps.new }
+    ensures stopped { OnErr result (IsSpent steps.new) }
+{
+    compare(op, Comparable::of(left), Comparable::Whole(right), steps)
+}
+
 /// The number that a value is, None of others and of Nothing.
 #[inline(always)]
 fn whole_of<'a, V: Lent + 'a>(value: Option<V>) -> Option<i128>

@@ -31,7 +31,7 @@ mod steps;
 
 pub use candidates::{candidate, single, slice_place};
 pub use comparable::Comparable;
-pub use comparison::{compare, compare_lent, equal, less};
+pub use comparison::{compare, compare_lent, compare_to_whole, equal, less};
 pub use descent::{Descent, descend, descend_each};
 pub use selector::select_plain;
 pub use steps::{Steps, Stopped};

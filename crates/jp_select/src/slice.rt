@@ -176,6 +176,6 @@ pub(crate) fn whole(number: Numeral) -> Option<i128>
 {
     match number {
         Numeral::Whole(number) => Some(number),
-        Numeral::Beyond | Numeral::Fraction => None,
+        Numeral::Beyond(_) | Numeral::Fraction(_) => None,
     }
 }

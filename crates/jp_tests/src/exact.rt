@@ -1,8 +1,8 @@
 //! Documents whose numbers are exact decimals. The values are those that RFC 8259 sections 4 and 6 give the
 //! texts, by arithmetic, and numbers are written in the layout of RFC 8785 section 3.2.2.3.
 
-use jp_document::Json;
-use jp_exact::{ExactFault, exact_value};
+use jp_document::{DocumentFault, Json};
+use jp_exact::exact_value;
 use jp_lent::value_text;
 use std::alloc::{AllocError, Global};
 use std::test::Fail;
@@ -95,7 +95,7 @@ const OUT_OF_RANGE: &[(&str, &str)] = &[
 #[test]
 fn numbers_out_of_range(rt: HostRuntime) -> Result<(), Fail> {
     for (text, path) in OUT_OF_RANGE {
-        let Err(ExactFault::NumberRange(found)) = exact_value(rt.alloc(), text.as_bytes()) else {
+        let Err(DocumentFault::NumberRange(found)) = exact_value(rt.alloc(), text.as_bytes()) else {
             return Err(Fail::from("a number out of range is not told"));
         };
         assert_eq!(rt; found.as_str(), *path, "{text}");
@@ -128,12 +128,12 @@ const NOT_JSON: &[&str] = &[
 fn no_json_texts(rt: HostRuntime) {
     for text in NOT_JSON {
         let fault = exact_value(rt.alloc(), text.as_bytes()).err();
-        assert_eq!(rt; fault, Some(ExactFault::NotJson), "{text}");
+        assert_eq!(rt; fault, Some(DocumentFault::NotJson), "{text}");
     }
     let bytes: [&[u8]; 3] = [b"\"\xff\"", b"\"\xc0\x80\"", b"\"\xed\xa0\x80\""];
     for text in bytes {
         let fault = exact_value(rt.alloc(), text).err();
-        assert_eq!(rt; fault, Some(ExactFault::NotJson));
+        assert_eq!(rt; fault, Some(DocumentFault::NotJson));
     }
 }
 
@@ -162,7 +162,7 @@ fn levels(rt: HostRuntime) -> Result<(), Fail> {
     assert_eq!(rt; told.as_str(), deepest.as_str());
     let deeper = nested(rt.alloc(), 128)?;
     let fault = exact_value(rt.alloc(), deeper.as_bytes()).err();
-    assert_eq!(rt; fault, Some(ExactFault::NotJson));
+    assert_eq!(rt; fault, Some(DocumentFault::NotJson));
     Ok(())
 }
 
@@ -208,15 +208,15 @@ fn forms(rt: HostRuntime) -> Result<(), Fail> {
 fn faults(rt: HostRuntime) -> Result<(), Fail> {
     let path = String::from_str(rt.alloc(), "$[0]")?;
     let rows = [
-        (ExactFault::NotJson, 1, "NotJson", "NotJson"),
+        (DocumentFault::NotJson, 1, "NotJson", "NotJson"),
         (
-            ExactFault::NumberRange(path),
-            2,
+            DocumentFault::NumberRange(path),
+            5,
             "NumberRange",
             "NumberRange at $[0]",
         ),
-        (ExactFault::ListTooLong, 3, "ListTooLong", "ListTooLong"),
-        (ExactFault::NoMemory, 4, "NoMemory", "NoMemory"),
+        (DocumentFault::ListTooLong, 3, "ListTooLong", "ListTooLong"),
+        (DocumentFault::NoMemory, 4, "NoMemory", "NoMemory"),
     ];
     for (fault, number, name, expected) in rows {
         let mut text = String::new(rt.alloc());

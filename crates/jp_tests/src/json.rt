@@ -4,6 +4,7 @@ mod samples;
 mod syntax;
 mod values;
 
+use jp_decimal::Numbers;
 use jp_json::{JsonReason, LEVEL_LIMIT, Misreading, find_misreading};
 use std::alloc::Global;
 use std::process::Abort;
@@ -33,7 +34,7 @@ fn each_wrong_text_has_its_reason_and_place(rt: HostRuntime) -> Result<(), Fail>
 
 fn assert_rows(rt: &impl Abort, alloc: Global, rows: &[Row]) -> Result<(), Fail> {
     for (bytes, reason, place) in rows {
-        let told = find_misreading(alloc, bytes)?;
+        let told = find_misreading(alloc, bytes, Numbers::Whole)?;
         assert_told(rt, &told, *reason, *place, None);
     }
     Ok(())
@@ -42,7 +43,7 @@ fn assert_rows(rt: &impl Abort, alloc: Global, rows: &[Row]) -> Result<(), Fail>
 #[test]
 fn each_reason_has_a_text_and_its_sentence(rt: HostRuntime) -> Result<(), Fail> {
     for (bytes, reason) in samples::ROWS {
-        let told = find_misreading(rt.alloc(), bytes)?.ok_or("a document")?;
+        let told = find_misreading(rt.alloc(), bytes, Numbers::Whole)?.ok_or("a document")?;
         assert_eq!(rt; (told.reason, told.sentence), (*reason, reason.sentence()));
     }
     Ok(())
@@ -51,7 +52,7 @@ fn each_reason_has_a_text_and_its_sentence(rt: HostRuntime) -> Result<(), Fail> 
 #[test]
 fn each_number_that_is_not_whole_has_its_path(rt: HostRuntime) -> Result<(), Fail> {
     for (bytes, reason, place, path) in values::NUMBERS {
-        let told = find_misreading(rt.alloc(), bytes)?;
+        let told = find_misreading(rt.alloc(), bytes, Numbers::Whole)?;
         assert_told(&rt, &told, *reason, *place, Some(*path));
     }
     Ok(())
@@ -80,7 +81,7 @@ fn assert_told(
 #[test]
 fn documents_have_none(rt: HostRuntime) -> Result<(), Fail> {
     for bytes in values::NONE {
-        assert!(rt; find_misreading(rt.alloc(), bytes)?.is_none());
+        assert!(rt; find_misreading(rt.alloc(), bytes, Numbers::Whole)?.is_none());
     }
     Ok(())
 }
@@ -91,7 +92,7 @@ fn level_128_is_one_too_many(rt: HostRuntime) -> Result<(), Fail> {
     for _ in 0..=LEVEL_LIMIT {
         bytes.push(b'[')?;
     }
-    let told = find_misreading(rt.alloc(), &bytes)?;
+    let told = find_misreading(rt.alloc(), &bytes, Numbers::Whole)?;
     assert_told(&rt, &told, JsonReason::TooManyLevels, (127, 1, 128), None);
     Ok(())
 }
@@ -101,7 +102,7 @@ fn is_told_in_one_line(rt: HostRuntime) -> Result<(), Fail> {
     let alloc = rt.alloc();
     for row in LINES {
         let (bytes, place, reason, name) = *row;
-        let told = find_misreading(alloc, bytes)?.ok_or("a document")?;
+        let told = find_misreading(alloc, bytes, Numbers::Whole)?.ok_or("a document")?;
         let sentence = reason.sentence();
         let wanted = format!(in alloc; "{place}: {sentence}")?;
         assert_eq!(rt; format!(in alloc; "{told}")?.as_str(), wanted.as_str());

@@ -7,6 +7,8 @@ mod canon;
 #[cfg(test)]
 mod check;
 #[cfg(test)]
+mod decimals;
+#[cfg(test)]
 mod document;
 #[cfg(test)]
 mod evaluate;
@@ -24,6 +26,8 @@ mod iregexp;
 mod json;
 #[cfg(test)]
 mod matching;
+#[cfg(test)]
+mod misread_decimals;
 #[cfg(test)]
 mod query;
 #[cfg(test)]

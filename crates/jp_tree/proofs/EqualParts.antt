@@ -8,6 +8,9 @@ use Rattle.std.proofs.lemmas.Str.{IsUtf8-string_bytes, encodes-chars}
 use Rattle.std.specs.Option.{option_eq}
 use Rattle.std.specs.Str.{encode_utf8_all}
 use Rattle.std.specs.String.{string_eq}
+use Rattle.jp_decimal.proofs.Unique.{Decides-decimal, Decides-number}
+use Rattle.jp_decimal.specs.contracts.number.DecimalPartialEq.TheImpl as decimals
+use Rattle.jp_decimal.specs.contracts.number.NumberPartialEq.TheImpl as numbers
 use denote.Enum.Bare.{same_true, true_same}
 use lib.Pointwise.{pointwise}
 use Rattle.jp_tree.specs.contracts.tree.LiteralPartialEq.TheImpl as literals
@@ -26,18 +29,22 @@ use Rattle.jp_tree.specs.Views.{literal_of}
 use Rattle.jp_tree.specs.Tree.{all_of, any_of, arguments, call, exprs, query, segment, segments}
 use Rattle.jp_tree.specs.Tree.{selectors}
 
-pub Decides-numeral : (s t : Numeral) → Decides (numerals.ghosts.eq s t) (s ≡ t)
-Decides-numeral (Whole m) (Whole n) =
-    Decides-like _ (λ e. ap Whole e) (λ e. cc) (Decides-int_eq m n)
-Decides-numeral Beyond Beyond = (λ h. refl, λ e. refl)
-Decides-numeral Fraction Fraction = (λ h. refl, λ e. refl)
-Decides-numeral _ _ = (λ h. cc, λ e. cc)
-
 Decides-option : {A : Type 0} (E : A → A → Bool) → ((x y : A) → Decides (E x y) (x ≡ y))
     → (x y : Option A) → Decides (option_eq E x y) (x ≡ y)
 Decides-option E each None None = (λ h. refl, λ e. refl)
 Decides-option E each (Some x) (Some y) = Decides-like _ (λ e. ap Some e) (λ e. cc) (each x y)
 Decides-option E each _ _ = (λ h. cc, λ e. cc)
+
+pub Decides-numeral : (s t : Numeral) → Decides (numerals.ghosts.eq s t) (s ≡ t)
+Decides-numeral (Whole m) (Whole n) =
+    Decides-like _ (λ e. ap Whole e) (λ e. cc) (Decides-int_eq m n)
+Decides-numeral (Beyond m) (Beyond n) =
+    Decides-like _ (λ e. ap Beyond e) (λ e. cc)
+    (Decides-option decimals.ghosts.eq Decides-decimal m n)
+Decides-numeral (Fraction m) (Fraction n) =
+    Decides-like _ (λ e. ap Fraction e) (λ e. cc)
+    (Decides-option numbers.ghosts.eq Decides-number m n)
+Decides-numeral _ _ = (λ h. cc, λ e. cc)
 
 pub Decides-slice : (s t : Slice) → Decides (slices.ghosts.eq s t) (s ≡ t)
 Decides-slice s t =

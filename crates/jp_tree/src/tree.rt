@@ -1,6 +1,7 @@
 //! A query's tree (RFC 9535 sections 2.1 to 2.5).
 
 use crate::function_name::FunctionName;
+use jp_decimal::{Decimal, Number};
 
 /// A query: an identifier and segments (RFC 9535 section 2.1).
 #[cycle(tree)]
@@ -48,10 +49,10 @@ pub struct Slice {
 pub enum Numeral {
     /// A whole number from -(2^63) to (2^64)-1.
     Whole(i128),
-    /// A whole number outside that range.
-    Beyond,
-    /// A number with a fraction or an exponent.
-    Fraction,
+    /// A whole number outside that range: which one, where it is a literal and can be held.
+    Beyond(Option<Decimal>),
+    /// A literal with a fraction or an exponent: the number that it writes, where that can be held.
+    Fraction(Option<Number>),
 }
 
 /// A logical expression of a filter (RFC 9535 section 2.3.5.1).

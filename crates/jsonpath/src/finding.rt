@@ -24,6 +24,7 @@ ghost use Rattle.jsonpath.specs.declared.fault.FindFault.TheVariants.{StepsUsedU
 use crate::fault::FindFault;
 use crate::size::check_size;
 use jp_check::{Checked, Profile, read_query};
+use jp_decimal::Numbers;
 use jp_document::{Node, OwnedStep, Step, path_text};
 use jp_evaluate::{LentNodes, Patterns, Plan, evaluate, lent_nodes_with};
 use jp_flat::FlatValue;
@@ -91,7 +92,7 @@ pub fn find_within(
     let query = asked(alloc, text, profile)?;
     check_size(bytes)?;
     let plan = Plan::of(alloc, &query)?;
-    let read = plan.read(alloc, bytes)?;
+    let read = plan.read(alloc, bytes, Numbers::Whole)?;
     matches_read(alloc, limit, &query, &read, steps)
 }
 

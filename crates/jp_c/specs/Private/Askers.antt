@@ -3,7 +3,7 @@ use Rattle.std.specs.Prelude.{◌≡◌, ◌⊎◌, ℕ, None, Option, length}
 use Rattle.std.specs.Prelude.{string_bytes}
 use Rattle.std.specs.String.{string_vec}
 use Rattle.std.specs.Vec.{vec_ptr}
-use Rattle.jp_command.specs.declared.lines.Form.{Form}
+use Rattle.jp_command.specs.declared.form.Form.{Form}
 use Rattle.jp_document.specs.Value.{Value}
 use Rattle.jp_flat.specs.FlatValue.{document_in}
 use Rattle.jp_limit.specs.OutputLimit.{StaysWithin}

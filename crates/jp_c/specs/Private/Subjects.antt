@@ -3,6 +3,7 @@ use Rattle.std.specs.Prelude.{◌≡◌, ◌⊎◌, ℕ, List, Result, Some, IfE
 use Rattle.std.specs.Prelude.{slice_get}
 use Rattle.jp_check.specs.Checked.{Profiled}
 use Rattle.jp_check.specs.declared.profile.Profile.{Profile}
+use Rattle.jp_decimal.specs.declared.numbers.Numbers.TheVariants.{Whole}
 use Rattle.jp_evaluate.specs.Plan.{HoldsPortion, Serves}
 use Rattle.jp_held.specs.declared.portion.Portion.{Portion}
 use Rattle.jp_query.specs.declared.refusal.Refusal.{Refusal}
@@ -41,7 +42,7 @@ AreRead profile portion bytes questions reads =
 -- the tables hold that portion of the document, or the fault is why it is none, and the place is where
 abbrev pub IsSound : Subject → Type 0
 IsSound s =
-    IfOk s.read (λ flat. HoldsPortion s.plan.now.portion s.document.now flat × Fits s.document.now)
+    IfOk s.read (λ flat. HoldsPortion Whole s.plan.now.portion s.document.now flat × Fits s.document.now)
     × IfErr s.read (IsNoDocument s.document.now)
     × IfSome s.place (IsMisreadAt s.document.now)
 

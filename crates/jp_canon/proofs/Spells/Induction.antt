@@ -4,7 +4,6 @@ use Rattle.jp_reading.specs.Texts.{Spans, Text}
 use Rattle.jp_query.specs.Grammar.{Inside, Nested, Segments, Spells}
 use Rattle.jp_query.specs.Laws.{OneReading}
 use Rattle.jp_tree.specs.Tree.{QueryTree, segments}
-use Rattle.jp_check.specs.declared.profile.Profile.TheVariants.{Extended}
 use Rattle.jp_canon.specs.Canon.{canon_of, segments_text}
 use Rattle.jp_canon.specs.Laws.{CanonIsAccepted, CanonSpells, CanonTellsApart}
 use Rattle.jp_canon.proofs.Forms.{Has, both, has-word}
@@ -54,10 +53,10 @@ one-tree one n m q u r s v w first second same =
     (one n m q u r s w (subst (Spells n q r) same first) second).0
 
 pub canon-tells-apart : OneReading → CanonTellsApart
-canon-tells-apart one q u accepted other = (
+canon-tells-apart one profile other q u accepted second = (
   λ same.
-      let here = canon-accepted Extended q accepted in
-      let there = canon-accepted Extended u other in
+      let here = canon-accepted profile q accepted in
+      let there = canon-accepted other u second in
       one-tree one _ _ q u here.spans there.spans (canon_of q)
       (canon_of u) here.spelled there.spelled same,
   ap canon_of,

@@ -23,8 +23,8 @@ use Rattle.jp_canon.proofs.Numbers.{int, number-text}
 is_one-is : (i : Numeral) → is_one i ≡ true → i ≡ Whole (pos 1)
 is_one-is (Whole (pos n)) is = ap (λ m. Whole (pos m)) (eqb-true n 1 is)
 is_one-is (Whole (negsuc n)) is = absurd (cc)
-is_one-is Beyond is = absurd (cc)
-is_one-is Fraction is = absurd (cc)
+is_one-is (Beyond d) is = absurd (cc)
+is_one-is (Fraction n) is = absurd (cc)
 
 has-bound : (x : Option Numeral) (s : Spans) (o : ℕ) (t : Text) → Bound x s o t
     → Has (Bound x) (bound_text x)

@@ -7,7 +7,7 @@ use Rattle.jp_tree.specs.Tree.{ArgumentTree, CallTree, arguments, call}
 use Rattle.jp_check.specs.declared.functions.DataType.{DataType}
 use Rattle.jp_check.specs.declared.functions.Signature as declared
 use Rattle.jp_check.specs.declared.profile.Profile.{Profile}
-use Rattle.jp_check.specs.declared.profile.Profile.TheVariants.{Standard}
+use Rattle.jp_check.specs.declared.profile.Profile.TheVariants.{Standard, Decimal}
 use Rattle.jp_check.specs.Functions.{Signature, signature_named}
 use Rattle.jp_check.specs.Types.{wanted_of_arguments}
 
@@ -19,6 +19,7 @@ is_added _ = false
 -- the function that some name has, if the profile has it
 abbrev pub function_within : Profile → Option Function → Option Function
 function_within Standard (Some function) = if is_added function then None else Some function
+function_within Decimal (Some function) = if is_added function then None else Some function
 function_within profile function = function
 
 -- the types of a function

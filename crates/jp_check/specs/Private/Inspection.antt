@@ -1,6 +1,9 @@
 -- How the components of a query are gone through: in their order, one span a component.
 use Rattle.std.specs.Prelude.{◌==◌, ◌&&◌, ◌||◌, nat_lt, ℕ, Bool, List, []}
 use Rattle.std.specs.Prelude.{◌∷◌, Option, Some, None, length, if◌then◌else◌}
+use Rattle.jp_decimal.specs.declared.numbers.Numbers.{Numbers}
+use Rattle.jp_decimal.specs.declared.numbers.Numbers.TheVariants.{Decimal as DecimalNumbers}
+use Rattle.jp_decimal.specs.declared.numbers.Numbers.TheVariants.{Whole as WholeNumbers}
 use Rattle.jp_reading.specs.Texts.{Spans}
 use Rattle.jp_query.specs.declared.refusal.Refusal.{Refusal}
 use Rattle.jp_query.specs.declared.refusal.RefusalKind.{RefusalKind}
@@ -20,6 +23,7 @@ use Rattle.jp_check.specs.declared.functions.DataType.{DataType}
 use Rattle.jp_check.specs.declared.functions.DataType.TheVariants.{Value, Logical}
 use Rattle.jp_check.specs.declared.profile.Profile.{Profile}
 use Rattle.jp_check.specs.Functions.{Signature, signature_named}
+use Rattle.jp_check.specs.Numbers.{numbers}
 use Rattle.jp_check.specs.Types.{fits, wanted}
 use Rattle.jp_check.specs.Ranges.{is_in_index_range}
 
@@ -39,11 +43,23 @@ abbrev pub ill_typed : DataType → Option DataType → Option RefusalKind
 ill_typed own None = None
 ill_typed own (Some other) = if fits own other then None else Some IllTyped
 
+-- the fault of a number where there are those, if it has one
+abbrev pub fault_of_number : Numbers → Numeral → Option RefusalKind
+fault_of_number WholeNumbers (Fraction n) = Some NotWhole
+fault_of_number WholeNumbers (Beyond d) = Some NumberRange
+fault_of_number DecimalNumbers (Fraction None) = Some NumberRange
+fault_of_number DecimalNumbers (Beyond None) = Some NumberRange
+fault_of_number numbers n = None
+
+-- the one fault, or else the other
+abbrev pub or_fault : Option RefusalKind → Option RefusalKind → Option RefusalKind
+or_fault (Some kind) other = Some kind
+or_fault None other = other
+
 -- the fault of a literal where that type is wanted, if it has one
-abbrev pub fault_of_literal : LiteralTree → Option DataType → Option RefusalKind
-fault_of_literal (number Fraction) want = Some NotWhole
-fault_of_literal (number Beyond) want = Some NumberRange
-fault_of_literal _ want = ill_typed Value want
+abbrev pub fault_of_literal : Numbers → LiteralTree → Option DataType → Option RefusalKind
+fault_of_literal numbers (number n) want = or_fault (fault_of_number numbers n) (ill_typed Value want)
+fault_of_literal numbers _ want = ill_typed Value want
 
 -- the fault of a query where that type is wanted, if it has one
 abbrev pub fault_of_query : QueryTree → Option DataType → Option RefusalKind
@@ -69,7 +85,7 @@ fault_of_logical want = ill_typed Logical want
 -- the fault of a component, if it has one; of several the one with the least number
 abbrev pub fault_of : Profile → QueryComponent → Option RefusalKind
 fault_of profile (int n _) = fault_of_int n
-fault_of profile (constant l role) = fault_of_literal l (wanted profile role)
+fault_of profile (constant l role) = fault_of_literal (numbers profile) l (wanted profile role)
 fault_of profile (inner q role) = fault_of_query q (wanted profile role)
 fault_of profile (called c role) = fault_of_call profile c (wanted profile role)
 fault_of profile (logical e role) = fault_of_logical (wanted profile role)
@@ -112,7 +128,8 @@ past_components (x ∷ xs) p = past_components xs (past_component (fault_of p.pr
 
 -- past an argument of which that type is wanted, and past the components in it
 abbrev pub past_argument : Option DataType → ArgumentTree → Progress → Progress
-past_argument want (literal_argument l) p = past_component (fault_of_literal l want) p
+past_argument want (literal_argument l) p =
+    past_component (fault_of_literal (numbers p.profile) l want) p
 past_argument want (query_argument q) p = past_components (components_of q) (past_component (fault_of_query q want) p)
 past_argument want (call_argument c) p =
     past_components (call_components c) (past_component (fault_of_call p.profile c want) p)

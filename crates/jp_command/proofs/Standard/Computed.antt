@@ -2,6 +2,7 @@
 -- the one that the definitions give.
 use Rattle.std.proofs.Common.{◌≡◌, ℕ, Bool, true, false, if◌then◌else◌, List, Option, Some, None}
 use Rattle.std.proofs.Common.{option_and_then, option_map, refl, sym, subst}
+use Rattle.std.specs.Float.Numeral.{scan_numeral}
 use Rattle.std.specs.Fmt.{digits}
 use Rattle.std.specs.Str.{chars, is_utf8}
 use Rattle.std.proofs.lemmas.Str.{IsUtf8-from_is_utf8}
@@ -43,8 +44,7 @@ use Rattle.jp_check.specs.Refused.{IsFaulty}
 use Rattle.jp_check.specs.Private.Inspection.{past_components}
 use Rattle.jp_check.specs.declared.profile.Profile.TheVariants.{Standard}
 use Rattle.jp_check.proofs.Least.{found, found-fault}
-use Rattle.jp_command.specs.Lines.{output_of}
-use Rattle.jp_command.specs.declared.lines.Form.TheVariants.{Both}
+use Rattle.jp_command.specs.Lines.{both, output_of}
 
 -- ---- what rows say
 
@@ -55,7 +55,7 @@ pub record Selects (document text lines : List ℕ) : Type 0 where
   pub value : Value
   pub asked : IsAcceptedAs Standard text query
   pub read : IsDocument document value
-  pub written : output_of Both query value ≡ lines
+  pub written : output_of both query value ≡ lines
 
 -- the text is accepted as a query
 abbrev pub Accepts : List ℕ → Type 0
@@ -70,7 +70,8 @@ IsRefused = IsFaulty Standard
 unfoldable pub reading : Text → Outcome QueryTree
 unfolding query_at rule.shorthand rule.unit_after rule.unit rule.surrogates_after rule.hexchar
     rule.escape rule.string_character rule.characters rule.quoted rule.size rule.unsigned rule.int
-    rule.bound rule.later_step rule.step rule.slice_from rule.digits rule.decimals rule.power
+    rule.bound rule.later_step rule.step rule.slice_from rule.digits rule.int_digits rule.decimals
+    rule.power scan_numeral
     rule.exponent rule.mantissa rule.number rule.plain_literal rule.operator rule.number_selector
     rule.selector rule.entry rule.entries rule.bracket rule.member rule.selection rule.segment
     rule.segments rule.query rule.identifier rule.query_within rule.word rule.side_within rule.side
@@ -212,10 +213,10 @@ unfolding tree value index_text spelling digits is_match has_match is_word has_w
     pattern.atom_at pattern.class_at pattern.all_elements_at pattern.element_at pattern.character_at
     pattern.range_at is_plain
 answer document text =
-    option_and_then (λ q. option_map (output_of Both q) (value document)) (tree text)
+    option_and_then (λ q. option_map (output_of both q) (value document)) (tree text)
 
 answered : (document text lines : List ℕ) (q : QueryTree) (o : Option Value) → tree text ≡ Some q
-    → value document ≡ o → option_map (output_of Both q) o ≡ Some lines
+    → value document ≡ o → option_map (output_of both q) o ≡ Some lines
     → Selects document text lines
 answered document text lines q None e r h = absurd (cc)
 answered document text lines q (Some v) e r h = record {
@@ -227,7 +228,7 @@ answered document text lines q (Some v) e r h = record {
 }
 
 treed : (document text lines : List ℕ) (o : Option QueryTree) → tree text ≡ o
-    → option_and_then (λ q. option_map (output_of Both q) (value document)) o ≡ Some lines
+    → option_and_then (λ q. option_map (output_of both q) (value document)) o ≡ Some lines
     → Selects document text lines
 treed document text lines None e h = absurd (cc)
 treed document text lines (Some q) e h =

@@ -31,5 +31,5 @@ pub data TellsFault (old new : Option (List ℕ)) (explains : Bool) (profile : P
   with_explanation : (r : Refusal) → f ≡ Query r → explains ≡ true
       → TellsExplained profile query r old new → TellsFault old new explains profile query bytes f
   with_misreading : (d : DocumentFault) → f ≡ Document d → explains ≡ true
-      → TellsMisread bytes (Document d) old new
+      → TellsMisread profile bytes (Document d) old new
       → TellsFault old new explains profile query bytes f

@@ -1,12 +1,11 @@
 -- What is told of a node for its line in a form. The clauses of `next_shown` cite it.
-use Rattle.std.specs.Prelude.{◌≡◌, ◌∷◌, ⊤, [], true, false, Option, Some, None, Result, Ok, Err}
+use Rattle.std.specs.Prelude.{◌≡◌, ◌∷◌, [], true, false, Option, Some, None, Result, Ok, Err}
 use Rattle.jp_document.specs.Node.{Node}
 use Rattle.jp_document.specs.Value.{Value}
 use Rattle.jp_evaluate.specs.Lent.{KeepsWay, has_failed, rest_of, given_node}
 use Rattle.jp_evaluate.specs.declared.lent.LentNodes.{LentNodes}
 use Rattle.jp_command.specs.Lines.{text_in_line}
-use Rattle.jp_command.specs.declared.lines.Form.{Form}
-use Rattle.jp_command.specs.declared.lines.Form.TheVariants.{Values, Paths, Both, RawValues, RawBoth}
+use Rattle.jp_command.specs.declared.form.Form.{Form}
 
 -- what one call gives, as `GivesNextAs` says it, but that of the node no more is told than its value, and
 -- what its line has in that form, which is what the node has that was given last
@@ -22,8 +21,4 @@ GivesShown form m v None w =
 
 -- where lines in that form have paths, what is kept of the way of v stands on that of w
 abbrev pub KeepsShown : {V M : Type 0} → Form → LentNodes V M → LentNodes V M → Type 0
-KeepsShown Values v w = ⊤
-KeepsShown Paths v w = KeepsWay v w
-KeepsShown Both v w = KeepsWay v w
-KeepsShown RawValues v w = ⊤
-KeepsShown RawBoth v w = KeepsWay v w
+KeepsShown form v w = form.has_path ≡ true → KeepsWay v w

@@ -101,20 +101,20 @@ pub const NOT_WHOLE: &[Misread] = &[
         "NotWhole",
         "line 1, column 13, at $['b'][0]",
         JsonReason::HasFraction,
-        "",
+        " With --decimals jp takes numbers of up to 38 digits exactly.",
     ),
     (
         b"[\n -0]",
         "NotWhole",
         "line 2, column 2, at $[0]",
         JsonReason::NegativeZero,
-        "",
+        " With --decimals jp takes numbers of up to 38 digits exactly.",
     ),
     (
         b"18446744073709551616",
         "NotWhole",
         "line 1, column 1, at $",
         JsonReason::OutOfRange,
-        "",
+        " With --decimals jp takes numbers of up to 38 digits exactly.",
     ),
 ];

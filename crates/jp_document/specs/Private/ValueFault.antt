@@ -8,6 +8,7 @@ use Rattle.jp_document.specs.declared.value_fault.ValueFault.TheVariants.{Fracti
 use Rattle.jp_document.specs.declared.fault.DocumentFault.{DocumentFault}
 use Rattle.jp_document.specs.declared.fault.DocumentFault.TheVariants.{NotJson, NotWhole}
 use Rattle.jp_document.specs.declared.fault.DocumentFault.TheVariants.{ListTooLong, NoMemory}
+use Rattle.jp_document.specs.declared.fault.DocumentFault.TheVariants.{NumberRange}
 use Rattle.jp_document.specs.Path.{path_of}
 use Rattle.jp_document.specs.Document.{IsFirstFraction}
 use Rattle.jp_document.specs.Location.{owned_step}
@@ -25,6 +26,7 @@ IsFaultAt (Fraction steps) (NotWhole path) =
 IsFaultAt (Fraction steps) NoMemory = Unit {0}
 IsFaultAt (Fraction steps) NotJson = ⊥
 IsFaultAt (Fraction steps) ListTooLong = ⊥
+IsFaultAt (Fraction steps) (NumberRange path) = ⊥
 IsFaultAt ValueFault.NoMemory fault = fault ≡ NoMemory
 
 -- the steps are those of the first fraction, reversed

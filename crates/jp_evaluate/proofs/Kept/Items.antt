@@ -91,8 +91,8 @@ candidates-within p (index (Whole i)) vs =
     (count-within p vs)
     ∙ ap option_to_list (item-within p vs (item_at (item_count vs) i))
     ∙ list-within p (option_and_then (item_of (list vs)) (item_at (item_count vs) i))
-candidates-within p (index Beyond) vs = refl
-candidates-within p (index Fraction) vs = refl
+candidates-within p (index (Beyond d)) vs = refl
+candidates-within p (index (Fraction n)) vs = refl
 candidates-within p (slice s) vs =
     ap (λ c. flat_map (item_entry (list (items_with p vs))) (indexes_chosen s c)) (count-within p vs)
     ∙ items-chosen p vs (indexes_chosen s (item_count vs))

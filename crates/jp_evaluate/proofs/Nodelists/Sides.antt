@@ -3,6 +3,7 @@ use Rattle.std.proofs.Common.{Bool, true, false, if◌then◌else◌, List, Opti
 use Rattle.std.specs.List.{All}
 use Rattle.std.specs.Option.{IfSome, option_map}
 use Rattle.std.proofs.lemmas.List.Elements.{All-weaker}
+use Rattle.jp_decimal.specs.declared.number.Number.TheVariants.{Whole as AsWhole, Decimal as AsDecimal}
 use Rattle.jp_document.proofs.Descent.Entries.{document-names_rise}
 use Rattle.jp_document.proofs.Descent.Nodes.{IsDocumentValue-at}
 use Rattle.jp_document.specs.Node.{Node, StandsIn}
@@ -44,8 +45,11 @@ rises-query q d c stands =
 
 rises-literal : (x : LiteralTree) → Rises (literal_value x)
 rises-literal (number (Whole z)) = rises-some _ refl
-rises-literal (number Beyond) = rises-none
-rises-literal (number Fraction) = rises-none
+rises-literal (number (Beyond (Some d))) = rises-some _ refl
+rises-literal (number (Beyond None)) = rises-none
+rises-literal (number (Fraction (Some (AsWhole z)))) = rises-some _ refl
+rises-literal (number (Fraction (Some (AsDecimal d)))) = rises-some _ refl
+rises-literal (number (Fraction None)) = rises-none
 rises-literal (text cs) = rises-some _ refl
 rises-literal true_literal = rises-some _ refl
 rises-literal false_literal = rises-some _ refl

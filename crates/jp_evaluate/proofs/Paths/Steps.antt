@@ -86,8 +86,8 @@ selector-names (name cs) k is = λ d n.
     ∙ ap (λ j. option_to_list (child_of n j)) (same_Some (named (encode_utf8_all cs)) k is)
 selector-names (index (Whole (pos i))) k is = in_range (nat_lt i (2 ^ 64)) i k is
 selector-names (index (Whole (negsuc i))) k is = absurd (cc)
-selector-names (index Beyond) k is = absurd (cc)
-selector-names (index Fraction) k is = absurd (cc)
+selector-names (index (Beyond d)) k is = absurd (cc)
+selector-names (index (Fraction n)) k is = absurd (cc)
 selector-names wildcard k is = absurd (cc)
 selector-names (slice s) k is = absurd (cc)
 selector-names (filter e) k is = absurd (cc)

@@ -40,8 +40,8 @@ no_candidates (name cs) v none = ap option_to_list (none_there v (named (encode_
 no_candidates wildcard v none = none
 no_candidates (index (Whole i)) v none =
     ap option_to_list (no_item v (option_and_then (λ n. item_at n i) (list_length v)) none)
-no_candidates (index Beyond) v none = refl
-no_candidates (index Fraction) v none = refl
+no_candidates (index (Beyond d)) v none = refl
+no_candidates (index (Fraction n)) v none = refl
 no_candidates (slice s) v none = of_length (list_length v)
   where
     of_length : (o : Option ℕ)

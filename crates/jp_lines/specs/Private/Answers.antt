@@ -1,11 +1,13 @@
 -- What the answer to one line says. The clauses of `answer` cite it.
 use Rattle.std.specs.Prelude.{All, ◌≡◌, ◌⊎◌, ⊤, ℕ, Bool, true, List, Option, Result, Ok}
 use Rattle.std.specs.Prelude.{Err, map}
-use Rattle.jp_document.specs.Document.{IsDocumentFault}
 use Rattle.jp_document.specs.declared.fault.DocumentFault.{DocumentFault}
 use Rattle.jp_document.specs.declared.fault.DocumentFault.TheVariants as document
+use Rattle.jp_exact.specs.Defects.{IsDocumentFaultIn}
 use Rattle.jp_held.specs.declared.portion.Portion.{Portion}
 use Rattle.jp_tree.specs.Views.{expr_of, query_of}
+use Rattle.jp_check.specs.Numbers.{numbers}
+use Rattle.jp_check.specs.declared.profile.Profile.{Profile}
 use Rattle.jp_evaluate.specs.Plan.{Serves, ServesTest}
 use Rattle.jp_command.specs.Output.{AppendsPrefix, WritesAll}
 use Rattle.jp_command.specs.declared.fault.Fault.{Fault}
@@ -26,10 +28,10 @@ abbrev pub defect_of : DocumentFault → Result Reply Fault
 defect_of document.NoMemory = Err NoMemory
 defect_of fault = Ok (reply.Refused (Document fault))
 
--- of the bytes of a line that are no document, the defect is their fault
-abbrev pub IsDefectOfBytes : List ℕ → Defect → Type 0
-IsDefectOfBytes bytes (Document fault) = IsDocumentFault bytes fault
-IsDefectOfBytes bytes _ = ⊤
+-- of the bytes of a line that are no document with the numbers of the profile, the defect is their fault
+abbrev pub IsDefectOfBytes : Profile → List ℕ → Defect → Type 0
+IsDefectOfBytes profile bytes (Document fault) = IsDocumentFaultIn (numbers profile) bytes fault
+IsDefectOfBytes profile bytes _ = ⊤
 
 -- what is read of a document in that portion serves the task
 abbrev pub ServesTask : Task → Portion → Type 0

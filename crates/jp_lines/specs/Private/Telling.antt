@@ -2,8 +2,14 @@
 use Rattle.std.specs.Prelude.{◌≡◌, ℕ, Bool, true, false, List, Option}
 use Rattle.jp_command.specs.Line.{fault_line}
 use Rattle.jp_command.specs.Output.{AppendsSome}
-use Rattle.jp_command.specs.declared.fault.Fault.TheVariants.{NoMemory}
+use Rattle.jp_command.specs.declared.fault.Fault.{Fault}
+use Rattle.jp_command.specs.declared.fault.Fault.TheVariants.{NoMemory, Write}
 use Rattle.jp_lines.specs.Program.{TellsLine, TellsWriteFault}
+
+-- why the text could not be written; nothing of a write that failed since what reads the output hung up
+abbrev pub TellsUnshown : {E : Type 0} → (E → Option (List ℕ)) → (E → Bool) → Fault → Bool → E → E → Type 0
+TellsUnshown reports reports_failed Write hung_up u v = TellsWriteFault reports reports_failed hung_up u v
+TellsUnshown reports reports_failed fault hung_up u v = TellsLine reports reports_failed (fault_line fault) u v
 
 module _ {W E : Type 0} (contents : W → Option (List ℕ)) (writes_failed : W → Bool)
     (hung_up : W → Bool) (holds_back : W → Bool) (reports : E → Option (List ℕ))

@@ -12,14 +12,13 @@ use Rattle.jp_reading.specs.Rule.{here, beyond, blanks, relaxed, ◌>>◌}
 use Rattle.jp_reading.specs.RuleReading.{spanned_if}
 use Rattle.jp_reading.proofs.States.Folds.{fails-then}
 use Rattle.jp_reading.proofs.Rules.Rounds as loops
-use Rattle.jp_tree.specs.declared.tree.Operand.TheVariants as operand
 use Rattle.jp_tree.specs.declared.tree.Subject.{the_lemmas}
 use Rattle.jp_tree.specs.Tree.{SegmentTree}
-use Rattle.jp_tree.specs.Views.{argument_of, call_of, expr_of}
-use Rattle.jp_tree.specs.Views.{literal_of, operand_of, selector_of, segment_of, query_of}
+use Rattle.jp_tree.specs.Views.{argument_of, expr_of}
+use Rattle.jp_tree.specs.Views.{literal_of, selector_of, segment_of}
 use Rattle.jp_tree.specs.Tree.{ArgumentTree, OperandTree, true_literal, false_literal}
-use Rattle.jp_tree.specs.Tree.{null_literal, query_argument, call_argument, logical_argument}
-use Rattle.jp_tree.specs.Tree.{exists, any_of, all_of, call_test}
+use Rattle.jp_tree.specs.Tree.{null_literal, logical_argument}
+use Rattle.jp_tree.specs.Tree.{any_of, all_of, call_test, literal as literal_operand}
 use Rattle.jp_reading.specs.Characters.{ampersand, bar, comma}
 use Rattle.jp_reading.specs.Characters.{closing_parenthesis, letter_t, letter_f, letter_n}
 use Rattle.jp_query.specs.Grammar.{joined}
@@ -29,13 +28,12 @@ use Rattle.jp_query.specs.Private.Rules.{conjunction, other_parts, call_with}
 use Rattle.jp_query.specs.Private.Rules.{argument, argument_start, argument_on}
 use Rattle.jp_query.specs.Private.Rules.{next_argument, some_arguments, is_logical, query_within}
 use Rattle.jp_query.specs.Private.Rules.{inside_expression, side, word_from, word_of}
-use Rattle.jp_query.specs.Private.Parts.{boxed_argument, boxed_expr, boxed_selector}
-use Rattle.jp_query.specs.Private.Parts.{first_argument}
-use Rattle.jp_query.specs.Private.Parts.{next_entry, logical_at, character_of, part_of, several}
+use Rattle.jp_query.specs.Private.Parts.{boxed_argument, boxed_expr, boxed_operand, boxed_selector}
+use Rattle.jp_query.specs.Private.Parts.{first_argument, uncompared_of}
+use Rattle.jp_query.specs.Private.Parts.{next_entry, character_of, part_of, several}
 use Rattle.jp_query.specs.Private.Reading.{inside, call_inside, read_inside}
 use Rattle.jp_query.proofs.Levels.{inside-progress, inside-entered}
-use Rattle.jp_tree.proofs.Trees.{tree_operand_literal}
-use Rattle.jp_tree.proofs.Trees.{tree_subject_query, tree_subject_call}
+use Rattle.jp_tree.proofs.Trees.{tree_subject_call}
 use Rattle.jp_query.proofs.Readers.Exits.{err_is}
 use Rattle.jp_query.proofs.Readers.ArgumentParts as parts
 use Rattle.jp_query.proofs.Readers.Openings as openings
@@ -364,32 +362,16 @@ calls::argument_from-returns-then-not-is_before_part t c =
     (sym c.is_before_part.ensures ∙ c.if-not-is_before_part.true)
     ∙ ap (λ x. took x c.args.reader.now) (sym c.in_ok-alone.ensures)
 
-pub calls::argument_from-returns-in_ok-test-in-Query :
-    goal.calls::argument_from-returns-in_ok-test-in-Query
-calls::argument_from-returns-in_ok-test-in-Query t c =
-    let x = c.in-Query.query in
+pub calls::argument_from-returns-in-Test : goal.calls::argument_from-returns-in-Test
+calls::argument_from-returns-in-Test t c =
+    let e = boxed_expr c.in-Test.test in
     subst (λ (o : Outcome ArgumentTree). Gives boxed_argument c.logical.result c.logical.new.reader o)
     (sym (ap (λ y. read_inside c.args.levels (argument_on y) c.args.reader.now)
-    (ap first_argument c.in-Query.is)
-    ∙ parts.parts-logical (inside c.args.levels) (inside-progress c.args.levels)
-    (query_argument (query_of x)) (exists (query_of x)) c.args.reader.now
-    (sym c.is_before_part.ensures ∙ c.if-not-is_before_part.false)
-    ∙ ap (λ e. logical_at c.args.levels e c.args.reader.now)
-    (sym (c.in_ok-test-in-Query.ensures ∙ tree_subject_query x)))) c.logical.ensures
-
-pub calls::argument_from-returns-in_ok-test-in-Call :
-    goal.calls::argument_from-returns-in_ok-test-in-Call
-calls::argument_from-returns-in_ok-test-in-Call t c =
-    let x = c.in-Call.call in
-    subst (λ (o : Outcome ArgumentTree). Gives boxed_argument c.logical-in-Call.result
-    c.logical-in-Call.new.reader o) (sym
-    (ap (λ y. read_inside c.args.levels (argument_on y) c.args.reader.now)
-    (ap first_argument c.in-Call.is)
-    ∙ parts.parts-logical (inside c.args.levels) (inside-progress c.args.levels)
-    (call_argument (call_of x)) (call_test (call_of x)) c.args.reader.now
-    (sym c.is_before_part.ensures ∙ c.if-not-is_before_part.false)
-    ∙ ap (λ e. logical_at c.args.levels e c.args.reader.now)
-    (sym (c.in_ok-test-in-Call.ensures ∙ tree_subject_call x)))) c.logical-in-Call.ensures
+    (ap first_argument c.in-Side.is)
+    ∙ parts.argument-of-test (inside c.args.levels) (inside-progress c.args.levels)
+    (boxed_operand c.in-Side.side) e c.args.reader.now
+    (sym (ap uncompared_of c.in-Test.is) ∙ c.in_ok-literal-in-Side.ensures)
+    (sym c.is_before_part.ensures ∙ c.if-not-is_before_part.false))) c.logical.ensures
 
 pub calls::argument_from-returns-in-Logical : goal.calls::argument_from-returns-in-Logical
 calls::argument_from-returns-in-Logical t c =
@@ -468,7 +450,7 @@ pub expressions::compared_or_test-returns-then-is_before_operator :
     goal.expressions::compared_or_test-returns-then-is_before_operator
 expressions::compared_or_test-returns-then-is_before_operator t c =
     rw (
-      parts.compared-on (inside c.args.levels) (operand_of c.args.first) c.args.reader.now
+      parts.compared-on (inside c.args.levels) (boxed_operand c.args.first) c.args.reader.now
           (sym c.is_before_operator.ensures ∙ c.if-is_before_operator.true),
       ← c.skip.ensures,
     ) c.comparison.ensures
@@ -480,7 +462,7 @@ sides::side-returns t c = search rules
 pub sides::word-returns-then-is_at : goal.sides::word-returns-then-is_at
 sides::word-returns-then-is_at t c =
     rw (openings.word-t c.args.levels c.args.reader.now (sym c.is_at.ensures ∙ c.if-is_at.true))
-    (subst (λ (more : Text). Gives operand_of c.word_or_call.result c.word_or_call.new.reader
+    (subst (λ (more : Text). Gives boxed_operand c.word_or_call.result c.word_or_call.new.reader
     (read_inside c.args.levels (word_of true_literal letter_t more) c.args.reader.now))
     c.as_slice.ensures
     c.word_or_call.ensures)
@@ -488,7 +470,7 @@ sides::word-returns-then-is_at t c =
 pub sides::word-returns-then-is_at-2 : goal.sides::word-returns-then-is_at-2
 sides::word-returns-then-is_at-2 t c =
     rw (openings.word-f c.args.levels c.args.reader.now (sym c.is_at-2.ensures ∙ c.if-is_at-2.true))
-    (subst (λ (more : Text). Gives operand_of c.word_or_call-then-is_at-2.result
+    (subst (λ (more : Text). Gives boxed_operand c.word_or_call-then-is_at-2.result
     c.word_or_call-then-is_at-2.new.reader
     (read_inside c.args.levels (word_of false_literal letter_f more) c.args.reader.now))
     c.as_slice-then-is_at-2.ensures
@@ -497,7 +479,7 @@ sides::word-returns-then-is_at-2 t c =
 pub sides::word-returns-then-is_at-3 : goal.sides::word-returns-then-is_at-3
 sides::word-returns-then-is_at-3 t c =
     rw (openings.word-n c.args.levels c.args.reader.now (sym c.is_at-3.ensures ∙ c.if-is_at-3.true))
-    (subst (λ (more : Text). Gives operand_of c.word_or_call-then-is_at-3.result
+    (subst (λ (more : Text). Gives boxed_operand c.word_or_call-then-is_at-3.result
     c.word_or_call-then-is_at-3.new.reader
     (read_inside c.args.levels (word_of null_literal letter_n more) c.args.reader.now))
     c.as_slice-then-is_at-3.ensures
@@ -545,7 +527,7 @@ sides::word_or_call-returns-then-is_before_name t c =
     let i = c.letters.letter-index in
     let next = letters-left c.args.others.now i c.letter-item.result
     (let more = c.letters-test.true in omega arith) c.letter-item.is in
-    subst (λ (o : Outcome OperandTree). Gives operand_of c.called.result c.called.new.reader o)
+    subst (λ (o : Outcome OperandTree). Gives boxed_operand c.called.result c.called.new.reader o)
     (sym (sym c.letters.invariant.total
     ∙ ap (λ ys. read_inside c.args.levels (word_from l w ys) c.letters.reader) next
     ∙ openings.word-called c.args.levels l w (c.letter-item.result ∷ drop (i + 1) c.args.others.now)
@@ -594,7 +576,7 @@ sides::word_or_call-returns-then-is_before_name-2 t c =
     let w = chars (string_bytes c.letters.name) in
     let last = drop_all c.letters.letter-index c.args.others.now
     (let end = c.letters-test.false in omega arith) in
-    subst (λ (o : Outcome OperandTree). Gives operand_of c.called-then-is_before_name-2.result
+    subst (λ (o : Outcome OperandTree). Gives boxed_operand c.called-then-is_before_name-2.result
     c.called-then-is_before_name-2.new.reader o) (sym (sym c.letters.invariant.total
     ∙ ap (λ ys. read_inside c.args.levels (word_from l w ys) c.letters.reader) last
     ∙ openings.word-called c.args.levels l w [] c.letters.reader
@@ -611,6 +593,5 @@ sides::word_or_call-returns t c =
     ∙ ap (λ ys. read_inside c.args.levels (word_from l w ys) c.letters.reader) last
     ∙ openings.word-ends c.args.levels l w c.letters.reader
     (sym c.is_before_name-2.ensures ∙ c.if-is_before_name-2.false)
-    ∙ ap (λ x. took x c.letters.reader) (sym (tree_operand_literal c.args.literal))
-    ∙ ap (λ x. took (operand_of (operand.Literal x)) c.letters.reader)
-    (sym c.letters.invariant.same)
+    ∙ ap (λ x. took x c.letters.reader) (sym (c.in_ok-literal_side.ensures
+    ∙ ap (λ x. literal_operand (literal_of x)) c.letters.invariant.same))

@@ -20,8 +20,8 @@ use Rattle.jp_query.specs.Private.Rules.{nesting, QueryRule, QueryOpening, basic
 use Rattle.jp_query.specs.Private.Rules.{other_parts, argument_start, argument_on}
 use Rattle.jp_query.specs.Private.Rules.{argument_of_parts, other_argument_parts, argument}
 use Rattle.jp_query.specs.Private.Rules.{next_argument, some_arguments, is_logical, begins_operator}
-use Rattle.jp_query.specs.Private.Rules.{comparison_with, compared_or_test}
-use Rattle.jp_query.specs.Private.Parts.{begins_part}
+use Rattle.jp_query.specs.Private.Rules.{comparison_with, compared_or_test, argument_alone}
+use Rattle.jp_query.specs.Private.Parts.{begins_part, test, uncompared}
 use Rattle.jp_query.proofs.Levels.{or-second}
 use Rattle.jp_query.proofs.Readers.Rounds.{along, outcome_map-twice, listed, parts-none}
 
@@ -133,6 +133,18 @@ module _ (inner : InnerReader nesting) (moves : (o : QueryOpening) → Progress 
       no-part (after_blank p) off in alone (call_argument c) (call_test c) p no.0 no.1
   argument-alone (logical_argument e) p off = let no =
       no-part (after_blank p) off in alone (logical_argument e) e p no.0 no.1
+
+  -- a side that is a test, as the first of several parts
+  pub argument-of-test : (x : OperandTree) (e : ExprTree) (p : State) → test e ≡ uncompared x
+      → passes begins_part (after_blank p) ≡ true
+      → read inner (argument_on (argument_alone x)) p ≡ logical_parts e p
+  argument-of-test (literal l) e p is on = absurd cc
+  argument-of-test (node_value q) e p is on =
+      let same : exists q ≡ e = cc in
+      parts-logical (query_argument q) (exists q) p on ∙ ap (λ z. logical_parts z p) same
+  argument-of-test (call_value c) e p is on =
+      let same : call_test c ≡ e = cc in
+      parts-logical (call_argument c) (call_test c) p on ∙ ap (λ z. logical_parts z p) same
 
 module _ (inner : InnerReader nesting) where
   -- ---- arguments

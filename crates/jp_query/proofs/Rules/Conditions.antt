@@ -34,7 +34,7 @@ all_rules : Unit {0}
 unfolding rule.shorthand rule.unit_after rule.unit rule.surrogates_after rule.hexchar
     rule.escape rule.string_character rule.characters rule.quoted rule.size rule.unsigned
     rule.int rule.bound rule.later_step rule.step rule.slice_from rule.digits rule.decimals
-    rule.power rule.exponent rule.mantissa rule.number rule.plain_literal rule.operator
+    rule.power rule.exponent rule.int_digits rule.mantissa rule.number rule.plain_literal rule.operator
     rule.number_selector rule.selector rule.entry rule.entries rule.bracket rule.member
     rule.selection rule.segment rule.segments rule.query rule.identifier rule.query_within
     rule.word rule.side_within rule.side rule.comparison_with rule.closed rule.subject
@@ -44,6 +44,10 @@ unfolding rule.shorthand rule.unit_after rule.unit rule.surrogates_after rule.he
 all_rules = tt
 
 -- ---- each class of characters in a rule is one of the table
+
+pub mantissa-alive : Alive rule.mantissa
+unfolding all_rules
+mantissa-alive = assumption classes
 
 selector-alive : Alive rule.selector
 unfolding all_rules

@@ -10,18 +10,21 @@ use Rattle.jp_query.specs.declared.expressions.Connective.{Connective}
 use Rattle.jp_query.specs.declared.expressions.Connective.TheVariants.{Or, And}
 use Rattle.jp_query.specs.declared.calls.FirstPart.{FirstPart}
 use Rattle.jp_query.specs.declared.calls.FirstPart.TheVariants as first
+use Rattle.jp_query.specs.declared.sides.Uncompared.{Uncompared}
+use Rattle.jp_query.specs.declared.sides.Uncompared.TheVariants as side
 use Rattle.jp_tree.specs.declared.tree.Expr.{Expr}
+use Rattle.jp_tree.specs.declared.tree.Operand.{Operand}
 use Rattle.jp_tree.specs.declared.tree.Selector.{Selector}
 use Rattle.jp_tree.specs.declared.tree.Argument.{Argument}
-use Rattle.jp_tree.specs.Views.{expr_of, selector_of, argument_of, literal_of, query_of, call_of}
-use Rattle.jp_tree.specs.Tree.{literal_argument, query_argument, call_argument}
+use Rattle.jp_tree.specs.Views.{expr_of, selector_of, argument_of, operand_of}
+use Rattle.jp_tree.specs.Tree.{OperandTree, literal, node_value, call_value, exists, call_test}
 use Rattle.jp_tree.specs.Tree.{SelectorTree, ExprTree, ExprTrees, any_of, all_of, CallTree, call}
 use Rattle.jp_tree.specs.Tree.{arguments, ArgumentTree, logical_argument}
 use Rattle.jp_reading.specs.Characters.{ampersand, bar, comma, opening_parenthesis}
 use Rattle.jp_query.specs.Names.{is_function_char}
 use Rattle.jp_query.specs.Grammar.{joined}
 use Rattle.jp_query.specs.Private.Rules.{QueryRule, entry, basic, conjunction, other_parts, run}
-use Rattle.jp_query.specs.Private.Rules.{after_parenthesis}
+use Rattle.jp_query.specs.Private.Rules.{after_parenthesis, argument_alone}
 use Rattle.jp_query.specs.Private.Reading.{read_flat, read_inside}
 
 -- the tree of what is in a box
@@ -34,12 +37,29 @@ boxed_selector b = selector_of b.value
 abbrev pub boxed_argument : Box Argument → ArgumentTree
 boxed_argument b = argument_of b.value
 
+abbrev pub boxed_operand : Box Operand → OperandTree
+boxed_operand b = operand_of b.value
+
 -- the argument that its first part is, if nothing goes on from it
 abbrev pub first_argument : FirstPart → ArgumentTree
-first_argument (first.Literal l) = literal_argument (literal_of l)
-first_argument (first.Query q) = query_argument (query_of q)
-first_argument (first.Call c) = call_argument (call_of c)
+first_argument (first.Side b) = argument_alone (boxed_operand b)
 first_argument (first.Logical b) = logical_argument (boxed_expr b)
+
+-- what a side is that no operator follows: a literal, which has to be compared, or a test
+pub data UncomparedTree : Type 0 where
+  to_compare : OperandTree → UncomparedTree
+  test : ExprTree → UncomparedTree
+
+-- what that side is
+abbrev pub uncompared : OperandTree → UncomparedTree
+uncompared (literal l) = to_compare (literal l)
+uncompared (node_value q) = test (exists q)
+uncompared (call_value c) = test (call_test c)
+
+-- what the program holds of it
+abbrev pub uncompared_of : Uncompared → UncomparedTree
+uncompared_of (side.Literal b) = to_compare (boxed_operand b)
+uncompared_of (side.Test b) = test (boxed_expr b)
 
 -- a selector after a comma, and the blanks after each of them
 abbrev pub next_entry : QueryRule true here here SelectorTree

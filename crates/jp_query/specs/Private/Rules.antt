@@ -2,7 +2,7 @@
 -- next that is no blank, tells how a text goes on.
 use Rattle.std.specs.Char.{digit_value}
 use Rattle.std.specs.Prelude.{◌+◌, ◌*◌, ℕ, ◌||◌, ◌&&◌, not, Bool, true, false, List, [], ◌∷◌, ◌++◌}
-use Rattle.std.specs.Prelude.{Option, Some, None, pos, codes}
+use Rattle.std.specs.Prelude.{Option, Some, None, if◌then◌else◌, pos, codes}
 use Rattle.jp_reading.specs.Texts.{Text, is_among}
 use Rattle.jp_reading.specs.Outcome.{is}
 use Rattle.jp_reading.specs.Numbers.{is_digit, value_from}
@@ -35,7 +35,7 @@ use Rattle.jp_reading.specs.Characters.{letter_u, bar}
 use Rattle.jp_query.specs.Grammar.{joined}
 use Rattle.jp_query.specs.Ints.{whole_of, negative_of}
 use Rattle.jp_reading.specs.Numbers.{is_leading_digit}
-use Rattle.jp_query.specs.Literals.{is_e, is_sign, numeral}
+use Rattle.jp_query.specs.Literals.{is_e, is_sign, number_in, numeral}
 use Rattle.jp_query.specs.Names.{is_name_first, is_name_char, is_function_first, is_function_char}
 use Rattle.jp_query.specs.Strings.{is_plain, is_escapable, escaped, is_hexdig, is_d, is_not_d}
 use Rattle.jp_query.specs.Strings.{is_0_to_7, is_8_to_b, is_c_to_f, scalar_of}
@@ -202,34 +202,53 @@ slice_from start = do
 
 -- ---- literals (section 2.3.5.1)
 
--- digits, at least one, whose value does not count
-unfoldable pub digits : QueryRule true here here Bool
-digits = character is_digit >>= λ d. made (λ ds. true) (run is_digit)
+-- whether there is a character
+abbrev pub is_some : Text → Bool
+is_some [] = false
+is_some (c ∷ w) = true
+
+-- digits, at least one
+unfoldable pub digits : QueryRule true here here Text
+digits = character is_digit >>= λ d. made (λ ds. d ∷ ds) (run is_digit)
 
 -- a dot and digits, if there is a dot
-unfoldable pub decimals : QueryRule false here here Bool
-decimals = upon dot digits (value {m = here} false)
+unfoldable pub decimals : QueryRule false here here Text
+decimals = upon dot (made (λ ds. dot ∷ ds) digits) (value {m = here} [])
 
 -- digits after a sign or none
-unfoldable pub power : QueryRule true here here Bool
-power = look here is_sign (character is_sign >>= λ sign. digits) digits
+unfoldable pub power : QueryRule true here here Text
+power = look here is_sign (character is_sign >>= λ sign. made (λ ds. sign ∷ ds) digits) digits
 
 -- an `e`, a sign or none, and digits, if there is an `e`
-unfoldable pub exponent : QueryRule false here here Bool
-exponent = look here is_e (character is_e >>= λ e. power) (value {m = here} false)
+unfoldable pub exponent : QueryRule false here here Text
+exponent = look here is_e (character is_e >>= λ e. made (λ ds. e ∷ ds) power) (value {m = here} [])
+
+-- digits without a leading zero, or a zero
+unfoldable pub int_digits : QueryRule true here here Text
+int_digits =
+    upon digit_zero (value {m = here} (digit_zero ∷ []))
+    (character is_leading_digit >>= λ d. made (λ ds. d ∷ ds) (run is_digit))
 
 -- a whole number, or -0
-unfoldable pub mantissa : QueryRule true here here Numeral
-mantissa =
-    upon minus (upon digit_zero (value {m = here} (whole_of 0)) (made negative_of size))
-    unsigned
+unfoldable pub mantissa : QueryRule true here here Text
+mantissa = upon minus (made (λ ds. minus ∷ ds) int_digits) int_digits
+
+-- the whole number that these characters write
+abbrev pub integer_of : Text → Numeral
+integer_of [] = whole_of 0
+integer_of (c ∷ ds) =
+    if is minus c then negative_of (value_from 0 ds) else whole_of (value_from 0 (c ∷ ds))
+
+-- the number of these characters before its fraction, of its fraction, and of its exponent
+abbrev pub numeral_of : Text → Text → Text → Numeral
+numeral_of a b c = numeral (integer_of a) (is_some b) (is_some c) (number_in (a ++ (b ++ c)))
 
 -- number, with its fraction and its exponent
 unfoldable pub number : QueryRule true here here Numeral
 number = do
-  x ← mantissa
-  has_decimals ← decimals
-  made (numeral x has_decimals) exponent
+  a ← mantissa
+  b ← decimals
+  made (numeral_of a b) exponent
 
 -- literal that is no word: a string or a number
 unfoldable pub plain_literal : QueryRule true here here LiteralTree
@@ -352,11 +371,6 @@ begins_query c = is dollar c || is at_sign c
 -- the function expression whose name begins so
 abbrev pub call_with : Text → CallRest → CallTree
 call_with w r = call (w ++ r.rest) (argument_trees r.arguments)
-
--- whether there is a character
-abbrev pub is_some : Text → Bool
-is_some [] = false
-is_some (c ∷ w) = true
 
 -- the word whose letters are w and then these, or a function whose name begins so far like it
 abbrev pub word_from : LiteralTree → Text → (more : Text)

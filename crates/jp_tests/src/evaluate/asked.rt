@@ -1,6 +1,7 @@
 //! What queries ask of a document.
 
 use jp_check::{Checked, Profile, read_filter, read_query};
+use jp_decimal::Numbers;
 use jp_document::path_text;
 use jp_evaluate::{Plan, evaluate, lent_nodes};
 use jp_flat::{AskedFor, Room};
@@ -215,7 +216,7 @@ fn planned_nodes(
     plan: &Plan,
 ) -> Result<(String, Room), Fail> {
     let mut nodes = String::new(alloc);
-    let Ok(read) = plan.read_into(alloc, room, text.as_bytes()) else {
+    let Ok(read) = plan.read_into(alloc, room, text.as_bytes(), Numbers::Whole) else {
         return Err("no document")?;
     };
     match &read {

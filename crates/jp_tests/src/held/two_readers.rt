@@ -1,5 +1,6 @@
 //! The reader into tables beside `serde_json`.
 
+use jp_decimal::Numbers;
 use jp_document::{OwnedStep, parsed_value, read_path};
 use jp_flat::{AskedFor, Room};
 use jp_held::{Document, Excerpt, Portion, read_flat, read_into, read_portion, read_value_into};
@@ -9,7 +10,7 @@ use std::test::Fail;
 
 /// The compact text of a document, read into tables; None where it is none.
 fn by_tables(alloc: Global, text: &str) -> Result<Option<String>, AllocError> {
-    match read_flat(alloc, text.as_bytes()) {
+    match read_flat(alloc, text.as_bytes(), Numbers::Whole) {
         Ok(flat) => Ok(Some(value_text(alloc, flat.value())?)),
         Err(_) => Ok(None),
     }
@@ -66,7 +67,7 @@ fn no_documents(rt: HostRuntime) -> Result<(), Fail> {
         r#"{"a":1.5,"a":2,"b":1.5}"#,
         r#"{"a":{"b":[1.5,2]},"c":1}"#,
     ] {
-        let tables = read_flat(rt.alloc(), text.as_bytes()).err();
+        let tables = read_flat(rt.alloc(), text.as_bytes(), Numbers::Whole).err();
         let serde_json = parsed_value(rt.alloc(), text.as_bytes()).err();
         assert_eq!(rt; tables.is_some(), serde_json.is_some(), "{text}");
         assert_eq!(rt; tables, serde_json, "{text}");
@@ -120,7 +121,7 @@ fn documents_in_the_memory_of_others(rt: HostRuntime) -> Result<(), Fail> {
         "3",
     ] {
         let mut read = None;
-        room = match read_into(rt.alloc(), room, text.as_bytes()) {
+        room = match read_into(rt.alloc(), room, text.as_bytes(), Numbers::Whole) {
             Ok(flat) => {
                 read = Some(value_text(rt.alloc(), flat.value())?);
                 flat.into_room()
@@ -147,7 +148,8 @@ fn values_at_a_location(rt: HostRuntime) -> Result<(), Fail> {
         "0",
     ] {
         let room = Room::new(rt.alloc());
-        let found = match read_value_into(rt.alloc(), room, text.as_bytes(), location.steps()) {
+        let (bytes, steps) = (text.as_bytes(), location.steps());
+        let found = match read_value_into(rt.alloc(), room, bytes, steps, Numbers::Whole) {
             Ok(found) => found,
             Err((_, fault)) => return Err(fault)?,
         };
@@ -172,7 +174,7 @@ fn portion_of(
     text: &str,
     portion: &Portion,
 ) -> Result<(Option<String>, Room), AllocError> {
-    let read = match read_portion(alloc, room, text.as_bytes(), portion) {
+    let read = match read_portion(alloc, room, text.as_bytes(), portion, Numbers::Whole) {
         Ok(read) => read,
         Err((room, _fault)) => return Ok((None, room)),
     };
@@ -239,7 +241,7 @@ fn portions_in_the_memory_of_others(rt: HostRuntime) -> Result<(), Fail> {
 #[test]
 fn tables_that_own_their_text(rt: HostRuntime) -> Result<(), Fail> {
     let text = r#"{"b":"\t","a":["x",{"c":"é"}]}"#;
-    let flat = read_flat(rt.alloc(), text.as_bytes())?.owned(rt.alloc())?;
+    let flat = read_flat(rt.alloc(), text.as_bytes(), Numbers::Whole)?.owned(rt.alloc())?;
     let text = value_text(rt.alloc(), flat.value())?;
     assert_eq!(rt; text.as_str(), r#"{"a":["x",{"c":"é"}],"b":"\t"}"#);
     Ok(())

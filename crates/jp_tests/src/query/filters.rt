@@ -18,7 +18,7 @@ const FILTER: Row = (
                 Compare { left: Query(Query { absolute: false, segments: [] }), \
                     op: Unequal, right: Literal(Text(\"x\")) }, \
                 Compare { left: Literal(True), \
-                    op: Equal, right: Literal(Number(Fraction)) }])])))] }] }",
+                    op: Equal, right: Literal(Number(Fraction(Some(Whole(150))))) }])])))] }] }",
     &[
         Some(Span { start: 5, end: 8 }),
         Some(Span { start: 12, end: 15 }),

@@ -61,7 +61,7 @@ const NUMBERS: [Row; 5] = [
     (
         "$[18446744073709551616]",
         "Query { absolute: true, segments: [\
-            Segment { descendant: false, selectors: [Index(Beyond)] }] }",
+            Segment { descendant: false, selectors: [Index(Beyond(None))] }] }",
         &[Some(Span { start: 2, end: 22 })],
     ),
     (
@@ -73,7 +73,7 @@ const NUMBERS: [Row; 5] = [
     (
         "$[-9223372036854775809]",
         "Query { absolute: true, segments: [\
-            Segment { descendant: false, selectors: [Index(Beyond)] }] }",
+            Segment { descendant: false, selectors: [Index(Beyond(None))] }] }",
         &[Some(Span { start: 2, end: 22 })],
     ),
 ];

@@ -124,6 +124,10 @@ pub const ROWS: &[(JsonReason, &str)] = &[
         "This number is outside -(2^63) to (2^64)-1.",
     ),
     (
+        JsonReason::BeyondDecimal,
+        "This number has more than 38 digits, or an exponent beyond 1,000,000.",
+    ),
+    (
         JsonReason::ListTooLong,
         "A list has more than (2^53)-1 items.",
     ),

@@ -5,6 +5,11 @@ use jp_explain::Reason;
 /// A reason, and its sentence in a library and in a shell.
 pub const BY_SURROUNDINGS: &[(Reason, &str, &str)] = &[
     (
+        Reason::NotWhole,
+        "Numbers in queries are whole: write 10, and neither 10.0 nor 1e1.",
+        "This number has a fraction or an exponent, which the option --decimals reads exactly.",
+    ),
+    (
         Reason::ShellNumber,
         "A query begins with `$`: an index stands behind it in brackets, as in `$[0]`.",
         "A query begins with `$`; the shell makes a number of \"$[0]\", so put the query in single quotes.",
@@ -308,12 +313,12 @@ pub const ROWS: &[(Reason, &str)] = &[
         "Filters, parentheses and calls stand more than 128 deep inside one another.",
     ),
     (
-        Reason::NotWhole,
-        "Numbers in queries are whole: write 10, and neither 10.0 nor 1e1.",
-    ),
-    (
         Reason::NumberRange,
         "Numbers in queries go from -9223372036854775808 to 18446744073709551615.",
+    ),
+    (
+        Reason::DecimalRange,
+        "This number has more than 38 digits, or a power of ten that is not from -1000000 to 1000000.",
     ),
     (
         Reason::IndexRange,

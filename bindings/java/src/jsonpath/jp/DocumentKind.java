@@ -8,8 +8,10 @@ public enum DocumentKind {
     NUMBER_NOT_WHOLE(2, "NotWhole"),
     /** More than (2^53)-1 items. */
     LIST_TOO_LONG(3, "ListTooLong"),
+    /** The text is the normalized path of the first number that is too much for a decimal. */
+    NUMBER_BEYOND_DECIMAL(5, "NumberRange"),
     /** 2^32 bytes or more. */
-    DOCUMENT_TOO_LARGE(5, "DocumentTooLarge");
+    DOCUMENT_TOO_LARGE(6, "DocumentTooLarge");
 
     private final int number;
     private final String told;

@@ -1,6 +1,8 @@
-use Rattle.std.proofs.Common.{ap, length}
+use Rattle.std.proofs.Common.{ap, length, subst}
 use Rattle.jp_reading.specs.Characters.{tab}
 use Rattle.jp_tree.specs.Views.{query_of}
+use Rattle.jp_exact.specs.Defects.{IsDocumentFaultIn}
+use Rattle.jp_check.specs.Numbers.{numbers}
 use Rattle.jp_evaluate.specs.Plan.{IsReadToAnswer}
 use Rattle.jp_lines.specs.Outcome.{lead_of}
 use Rattle.jp_lines.specs.Task.{nodes_output, nodes_within}
@@ -13,8 +15,9 @@ returns-in-Ok-clause-answers g c =
     let options = c.args.asked.options in
     let selection = c.args.selection in
     let q = query_of selection.query.now.query in
-    let read : IsReadToAnswer q c.args.line.now c.in-Ok.read =
-    c.in-Ok.ensures.ok q c.requires.plan in
+    let read : IsReadToAnswer (numbers options.profile) q c.args.line.now c.in-Ok.read =
+    subst (λ n. IsReadToAnswer n q c.args.line.now c.in-Ok.read) c.numbers-numbers.ensures
+    (c.in-Ok.ensures.ok q c.requires.plan) in
     answers-same g.W.Writer.contents g.W.Writer.has_failed options (selection_task selection)
     c.args.number c.args.line.now read.document c.args.output.now c.write_read-answer.new.output _ _
     c.requires.few c.requires.some read.is
@@ -30,8 +33,9 @@ returns-in-Ok-clause-stopped g c =
     let options = c.args.asked.options in
     let selection = c.args.selection in
     let q = query_of selection.query.now.query in
-    let read : IsReadToAnswer q c.args.line.now c.in-Ok.read =
-    c.in-Ok.ensures.ok q c.requires.plan in
+    let read : IsReadToAnswer (numbers options.profile) q c.args.line.now c.in-Ok.read =
+    subst (λ n. IsReadToAnswer n q c.args.line.now c.in-Ok.read) c.numbers-numbers.ensures
+    (c.in-Ok.ensures.ok q c.requires.plan) in
     stops-same g.W.Writer.contents g.W.Writer.has_failed options (selection_task selection)
     c.args.number c.args.line.now read.document c.args.output.now c.write_read-answer.new.output _ _
     c.requires.few c.requires.some read.is
@@ -47,4 +51,5 @@ pub returns-in-Err-clause-answers : goal.returns-in-Err-clause-answers
 returns-in-Err-clause-answers g c = rw c.defect_of.ensures
     (refuses-document g.W.Writer.contents g.W.Writer.has_failed c.args.asked.options
     (selection_task c.args.selection) c.args.number c.args.line.now c.in-Err.fault
-    c.args.output.now c.requires.few c.requires.some c.in-Err.ensures.fault).0
+    c.args.output.now c.requires.few c.requires.some
+    (subst (λ n. IsDocumentFaultIn n c.args.line.now c.in-Err.fault) c.numbers-numbers.ensures c.in-Err.ensures.fault)).0

@@ -8,7 +8,7 @@ use Rattle.jp_lines.proofs.run.run_lines.Goals as goal
 pub returns : goal.returns
 returns g c =
     let request = SelectBy c.args.wanted All c.args.query.now in
-    asked-runs c.args.profile c.args.options g.R.Source.remaining g.R.Source.has_failed
+    asked-runs c.args.options g.R.Source.remaining g.R.Source.has_failed
     g.R.Source.read_gives g.W.Writer.contents g.W.Writer.has_failed g.E.Writer.contents
     g.E.Writer.has_failed request _ _ _ _ _ _ c.run_selected.result
-    (c.run_selected.ensures c.args.profile request (query_of c.in_ok-query.query.query, refl, search rules))
+    (c.run_selected.ensures request (query_of c.in_ok-query.query.query, refl, search rules))

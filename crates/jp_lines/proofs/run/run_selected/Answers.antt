@@ -10,16 +10,16 @@ use Rattle.jp_lines.proofs.Ending.{err-so, runs-stop_unread}
 use Rattle.jp_lines.proofs.run.run_selected.Goals as goal
 
 pub returns-in_err-plan : goal.returns-in_err-plan
-returns-in_err-plan g c = λ profile request asked.
+returns-in_err-plan g c = λ request asked.
     let task = Select c.args.wanted c.args.extent (query_of c.args.query.now.query) in
     err-so c.from_residual.result (stop.Run fault.NoMemory)
-    (RunsAsked profile c.args.options g.R.Source.remaining g.R.Source.has_failed
+    (RunsAsked c.args.options g.R.Source.remaining g.R.Source.has_failed
     g.R.Source.read_gives g.W.Writer.contents g.W.Writer.has_failed g.E.Writer.contents
     g.E.Writer.has_failed request c.args.input.now c.args.input.now
     c.args.output.now c.args.output.now c.args.faults.now c.args.faults.now)
     c.from_residual.ensures.1 (
       tally_of [],
-      goes-asked profile c.args.options g.R.Source.remaining g.R.Source.has_failed
+      goes-asked c.args.options g.R.Source.remaining g.R.Source.has_failed
           g.R.Source.read_gives g.W.Writer.contents g.W.Writer.has_failed g.E.Writer.contents
           g.E.Writer.has_failed request _ _ _ _ _ _ [] task _ _ refl asked
           (runs-stop_unread c.args.options [] g.R.Source.remaining g.R.Source.has_failed

@@ -53,7 +53,7 @@ returns g c =
     begun (Tabulate c.args.style qs) c.run_task.result refl (
       qs,
       refl,
-      subst (λ ks. AreAsked c.args.job.now.profile (map (λ t. t.now) c.args.texts.now)
+      subst (λ ks. AreAsked c.args.job.now.options.profile (map (λ t. t.now) c.args.texts.now)
           (map {A = Checked} (λ k. query_of k.query) ks)) (sym lent) c.in_ok-queries.ensures.read,
     )
     (c.run_task.ensures c.args.output.now (ColumnsBy c.args.style c.args.named (map (λ t. t.now) c.args.texts.now))

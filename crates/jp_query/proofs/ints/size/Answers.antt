@@ -5,4 +5,4 @@ use Rattle.jp_query.proofs.ints.size.Goals as goal
 pub returns-in-Some : goal.returns-in-Some
 returns-in-Some c =
     rw (size-natural c.args.reader.now c.in-Some.first (sym c.in-Some.ensures)
-    (sym c.if-is_leading_digit.ensures)) c.natural.ensures.taken
+    (sym c.if-is_leading_digit.ensures.test)) c.natural.ensures.taken

@@ -2,6 +2,7 @@ use Rattle.std.proofs.Common.{◌≡◌, ℕ, List, Result, Ok, Err, IfErr, IfOk
 use Rattle.std.specs.Str.{chars}
 use Rattle.jp_check.specs.Accepted.{IsAcceptedAs}
 use Rattle.jp_check.specs.declared.profile.Profile.{Profile}
+use Rattle.jp_decimal.specs.declared.numbers.Numbers.TheVariants.{Whole}
 use Rattle.jp_evaluate.specs.Plan.{IsReadToAnswer, nodes_read}
 use Rattle.jp_held.specs.declared.portion.Excerpt.{Excerpt}
 use Rattle.jp_limit.specs.declared.output_limit.OutputLimit.{OutputLimit}
@@ -19,7 +20,7 @@ use Rattle.jsonpath.proofs.finding.find_within.Goals as goal
 -- what is found in what was read for the query is found in the document
 module _ (limit : OutputLimit) (profile : Profile) (text bytes : List ℕ) (q : QueryTree) (e : Excerpt)
     (accepted : IsAcceptedAs profile (chars text) q) (fits : Fits bytes)
-    (read : IsReadToAnswer q bytes e) where
+    (read : IsReadToAnswer Whole q bytes e) where
   finds : {A : Type 0} (texts : A → List (List ℕ × List ℕ)) (r : Result A FindFault)
       → IfOk r (λ a. texts a ≡ map texts_of (nodes_read q e))
       → IfOk r (λ a. Finds profile text bytes (texts a))

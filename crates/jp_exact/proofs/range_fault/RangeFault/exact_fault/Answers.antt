@@ -3,7 +3,7 @@ use Rattle.jp_document.specs.Location.{owned_step}
 use Rattle.jp_document.specs.Path.{path_of}
 use Rattle.jp_document.proofs.Readings.Faults.{map-reverse}
 use Rattle.jp_exact.specs.Private.RangeFault.{IsRangeFaultAt}
-use Rattle.jp_exact.specs.declared.fault.ExactFault.TheVariants.{NumberRange}
+use Rattle.jp_document.specs.declared.fault.DocumentFault.TheVariants.{NumberRange}
 use Rattle.jp_exact.proofs.range_fault.RangeFault.exact_fault.Goals as goal
 
 pub returns-in-Ok : goal.returns-in-Ok
