@@ -3,8 +3,8 @@
  * It fails one read of the standard input or of a file, the one whose number, from 1, is in FAILED_READ,
  * and one write to the standard output, by FAILED_WRITE; those behind it work. Where READ_AT_MOST is set, a
  * read gives no more bytes than that. Where OPEN_FAULT is set, no file can be opened, by the fault of that
- * number. Where TELL_CALLS is set, it writes to descriptor 3 at the program's end how many reads and writes
- * were made. */
+ * number. Where TELL_CALLS is set, it writes to the descriptor whose number is in MARKS at the program's end how
+ * many reads and writes were made. */
 #include <errno.h>
 #include <fcntl.h>
 #include <stdio.h>
@@ -22,15 +22,13 @@ static long number_in(const char *word) {
 }
 
 ssize_t read(int descriptor, void *bytes, size_t size) {
-    if (descriptor != 3) {
-        size_t most = number_in("READ_AT_MOST");
-        if (++reads == number_in("FAILED_READ")) {
-            errno = EIO;
-            return -1;
-        }
-        if (most > 0 && most < size) {
-            size = most;
-        }
+    size_t most = number_in("READ_AT_MOST");
+    if (++reads == number_in("FAILED_READ")) {
+        errno = EIO;
+        return -1;
+    }
+    if (most > 0 && most < size) {
+        size = most;
     }
     return syscall(SYS_read, descriptor, bytes, size);
 }
@@ -55,6 +53,6 @@ ssize_t write(int descriptor, const void *bytes, size_t size) {
 
 __attribute__((destructor)) static void tell_calls(void) {
     if (getenv("TELL_CALLS") != NULL) {
-        dprintf(3, "%ld %ld", reads, writes);
+        dprintf((int)number_in("MARKS"), "%ld %ld", reads, writes);
     }
 }

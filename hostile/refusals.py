@@ -2,7 +2,6 @@
 write failing in turn, or with little stack; and their count."""
 import os
 import re
-import resource
 import shutil
 import subprocess
 import sys
@@ -48,21 +47,16 @@ class Runs:
 def run(program, words, document, environment=None, marks=None, stack=None, output=None):
     """The status of a run and what it printed on both streams, on the first if no other output is
     given."""
-
-    def limit():
-        if marks is not None:
-            os.dup2(marks, 3)
-        if stack is not None:
-            resource.setrlimit(resource.RLIMIT_STACK, (stack, stack))
-
+    # Nothing runs here between fork and exec, which would copy this process for each of thousands of runs.
+    limited = [] if stack is None else ["prlimit", f"--stack={stack}"]
+    marked = {} if marks is None else {"MARKS": str(marks)}
     done = subprocess.run(
-        [program, *words],
+        [*limited, program, *words],
         input=document.encode(),
         stdout=subprocess.PIPE if output is None else output,
         stderr=subprocess.PIPE,
-        env=environment or {},
-        preexec_fn=limit,
-        pass_fds=(3,) if marks is not None else (),
+        env={**(environment or {}), **marked},
+        pass_fds=() if marks is None else (marks,),
         timeout=60,
         check=False,
     )

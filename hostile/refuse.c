@@ -1,8 +1,8 @@
 /* Stands before the C library's calls for memory of a program that it is loaded before.
  *
  * It refuses one request, the one whose number, from 1, is in REFUSED_REQUEST, and then writes a
- * byte to descriptor 3. Where TELL_HELD is set, it writes there at the program's end how many bytes
- * were held at most, and where TELL_REQUESTS is set, how many requests came. */
+ * byte to the descriptor whose number is in MARKS. Where TELL_HELD is set, it writes there at the program's
+ * end how many bytes were held at most, and where TELL_REQUESTS is set, how many requests came. */
 #include <errno.h>
 #include <malloc.h>
 #include <stdio.h>
@@ -17,6 +17,11 @@ static long requests;
 static size_t held;
 static size_t most_held;
 
+static int marks(void) {
+    const char *number = getenv("MARKS");
+    return number == NULL ? -1 : atoi(number);
+}
+
 static int is_refused(void) {
     const char *number = getenv("REFUSED_REQUEST");
     ++requests;
@@ -24,7 +29,7 @@ static int is_refused(void) {
         return 0;
     }
     errno = ENOMEM;
-    return write(3, "!", 1) == 1;
+    return write(marks(), "!", 1) == 1;
 }
 
 static void *taken(void *block) {
@@ -54,9 +59,9 @@ void free(void *old) {
 
 __attribute__((destructor)) static void tell(void) {
     if (getenv("TELL_HELD") != NULL) {
-        dprintf(3, "%zu", most_held);
+        dprintf(marks(), "%zu", most_held);
     }
     if (getenv("TELL_REQUESTS") != NULL) {
-        dprintf(3, "%ld", requests);
+        dprintf(marks(), "%ld", requests);
     }
 }
