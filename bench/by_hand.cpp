@@ -95,6 +95,11 @@ bool is_cheap(element item) {
     return item["price"].get(price) == SUCCESS && price < 10;
 }
 
+bool is_bargain(element item) {
+    double price;
+    return item["price"].get(price) == SUCCESS && price < 10.5;
+}
+
 void equal_pairs(element list) {
     each_child(list, [](element item) {
         uint64_t left, right;
@@ -137,6 +142,9 @@ const std::map<std::string_view, std::function<void(element)>> tasks = {
     {"$.*", [](element value) { each_child(value, line); }},
     {"$..leaf", [](element value) { named(value, "leaf"); }},
     {"paths of $..leaf", [](element value) { paths_of_named(value, "leaf"); }},
+    {"decimals: print", line},
+    {"decimals: $[*].name", [](element value) { of_each(value, "name", always); }},
+    {"decimals: filter", [](element value) { of_each(value, "title", is_bargain); }},
     {"random names: print", line},
     {"random names: $.*", [](element value) { each_child(value, line); }},
 };

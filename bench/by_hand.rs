@@ -83,12 +83,15 @@ fn matching(out: Lines, list: &Value, name: &str, pattern: &str) -> io::Result<(
 
 fn run(task: &str, value: &Value, out: Lines) -> io::Result<()> {
     match task {
-        "parse and print" | "random names: print" => line(out, value),
-        "$[*].name" => of_each(out, value, |item| item.get("name")),
+        "parse and print" | "decimals: print" | "random names: print" => line(out, value),
+        "$[*].name" | "decimals: $[*].name" => of_each(out, value, |item| item.get("name")),
         "$..price" => named(out, value, "price"),
         "$..*" => inside(out, value),
         "$[?@.price<10].title" => of_each(out, value, |item| {
             if item.get("price")?.as_u64()? < 10 { item.get("title") } else { None }
+        }),
+        "decimals: filter" => of_each(out, value, |item| {
+            if item.get("price")?.as_f64()? < 10.5 { item.get("title") } else { None }
         }),
         "$[?@.a.b==@.c.d]" => of_each(out, value, |item| {
             let (left, right) = (item.get("a")?.get("b")?, item.get("c")?.get("d")?);

@@ -289,6 +289,11 @@ bool is_cheap(ondemand::object &members) {
     return price && *price < 10;
 }
 
+bool is_bargain(ondemand::object &members) {
+    std::optional<double> price = find_as<double>(members, "price");
+    return price && *price < 10.5;
+}
+
 bool has_stamp(ondemand::object &members) {
     std::optional<std::string_view> text = find_as<std::string_view>(members, "time");
     return text && is_stamp(*text);
@@ -346,6 +351,9 @@ const std::map<std::string_view, std::function<void(document &)>> tasks = {
     {"$.*", children},
     {"$..leaf", [](document &whole) { named(whole, "leaf"); }},
     {"paths of $..leaf", paths_of_leaves},
+    {"decimals: print", print_document},
+    {"decimals: $[*].name", [](document &list) { of_each(list, "name", always); }},
+    {"decimals: filter", [](document &list) { of_each(list, "title", is_bargain); }},
     {"random names: print", print_document},
     {"random names: $.*", children},
 };

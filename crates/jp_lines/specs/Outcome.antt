@@ -20,6 +20,7 @@ use Rattle.jp_json.specs.Told.{misreading_text}
 use Rattle.jp_json.specs.declared.misreading.Misreading.{Misreading}
 use Rattle.jp_json.specs.declared.reason.JsonReason.{JsonReason}
 use Rattle.jp_json.specs.declared.reason.JsonReason.TheVariants.{AfterValue, EndInArray, EndInObject, Gzip}
+use Rattle.jp_json.specs.declared.reason.JsonReason.TheVariants.{HasFraction, NegativeZero, OutOfRange}
 use Rattle.jp_json.specs.declared.reason.JsonReason.TheVariants.{RecordSeparator, Utf16}
 use Rattle.jp_lines.specs.Lines.{is_blank_line}
 use Rattle.jp_lines.specs.Task.{Task, mark_behind_number, selected_in, written_for}
@@ -117,13 +118,16 @@ abbrev pub tally_of : List LineOutcome → Tally
 tally_of [] = record { documents = 0; refused = 0; selected = 0 }
 tally_of (x ∷ xs) = plus (tally_in x) (tally_of xs)
 
--- What is said more of a line that is misread, where it shows another form than one document a line:
--- several documents on a line, one that goes over several lines, JSON text sequences (RFC 7464), what is
--- compressed, or UTF-16.
+-- What is said more of a line that is misread, where it has a number that is not whole or beyond 64 bits, or
+-- shows another form than one document a line: several documents on a line, one that goes over several lines,
+-- JSON text sequences (RFC 7464), what is compressed, or UTF-16.
 abbrev pub hint_of : JsonReason → List ℕ
 hint_of AfterValue = codes " Each line holds one document."
 hint_of EndInArray = codes " A document ends with its line: jp eval '$' writes it on one."
 hint_of EndInObject = codes " A document ends with its line: jp eval '$' writes it on one."
+hint_of HasFraction = codes " With --decimals jp-lines takes numbers of up to 38 digits exactly."
+hint_of NegativeZero = codes " With --decimals jp-lines takes numbers of up to 38 digits exactly."
+hint_of OutOfRange = codes " With --decimals jp-lines takes numbers of up to 38 digits exactly."
 hint_of RecordSeparator = codes " tr -d '\\036' takes it away."
 hint_of Gzip = codes " gzip -dc writes what it holds."
 hint_of Utf16 = codes " iconv -f UTF-16 -t UTF-8 writes it so."

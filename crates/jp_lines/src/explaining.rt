@@ -57,7 +57,8 @@ fn misread_line(
     format!(in alloc; "{told}{hint}\n")
 }
 
-/// What is said more of a line that shows another form than one document a line, behind a space.
+/// What is said more of a line with a number that is not whole, or that shows another form than one document a
+/// line, behind a space.
 fn hint(reason: JsonReason) -> &'static str
     ensures { result.now ≡ hint_of reason }
 {
@@ -65,6 +66,9 @@ fn hint(reason: JsonReason) -> &'static str
         JsonReason::AfterValue => " Each line holds one document.",
         JsonReason::EndInArray | JsonReason::EndInObject => {
             " A document ends with its line: jp eval '$' writes it on one."
+        }
+        JsonReason::HasFraction | JsonReason::NegativeZero | JsonReason::OutOfRange => {
+            " With --decimals jp-lines takes numbers of up to 38 digits exactly."
         }
         JsonReason::RecordSeparator => " tr -d '\\036' takes it away.",
         JsonReason::Gzip => " gzip -dc writes what it holds.",

@@ -227,13 +227,14 @@ fn what_is_no_number_of_the_profile_is_refused(rt: HostRuntime) -> Result<(), Al
     Ok(())
 }
 
-/// A flag, a line, how it is refused, the column with the path, and the reason.
+/// A flag, a line, how it is refused, the column with the path, the reason, and what is said behind its sentence.
 type Explained = (
     &'static str,
     &'static str,
     &'static str,
     &'static str,
     JsonReason,
+    &'static str,
 );
 
 const EXPLAINED: [Explained; 4] = [
@@ -243,6 +244,7 @@ const EXPLAINED: [Explained; 4] = [
         "NotWhole at $['price']",
         "column 43, at $['price']",
         JsonReason::HasFraction,
+        " With --decimals jp-lines takes numbers of up to 38 digits exactly.",
     ),
     (
         "--decimals",
@@ -250,6 +252,7 @@ const EXPLAINED: [Explained; 4] = [
         "NumberRange at $[1]",
         "column 4, at $[1]",
         JsonReason::BeyondDecimal,
+        "",
     ),
     (
         "--decimals",
@@ -257,6 +260,7 @@ const EXPLAINED: [Explained; 4] = [
         "NumberRange at $['b']",
         "column 14, at $['b']",
         JsonReason::BeyondDecimal,
+        "",
     ),
     (
         "--decimals",
@@ -264,6 +268,7 @@ const EXPLAINED: [Explained; 4] = [
         "NotJson",
         "column 8",
         JsonReason::WrongNumber,
+        "",
     ),
 ];
 
@@ -271,12 +276,12 @@ const EXPLAINED: [Explained; 4] = [
 fn assert_explained(
     rt: &impl Abort,
     alloc: Global,
-    (flag, line, refusal, place, reason): Explained,
+    (flag, line, refusal, place, reason, behind): Explained,
 ) -> Result<(), AllocError> {
     let sentence = reason.sentence();
     let lines = format!(in alloc; "{{}}\n{line}\n")?;
     let told = format!(in alloc;
-        "line 2: document refused: {refusal}\nline 2, {place}: {sentence}\n"
+        "line 2: document refused: {refusal}\nline 2, {place}: {sentence}{behind}\n"
     )?;
     let words = ["jp-lines", "count", "--explain", flag, "$"];
     let ended = (3, "1\n", told.as_str(), 1);

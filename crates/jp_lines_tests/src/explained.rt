@@ -26,7 +26,8 @@ fn told_of_all(alloc: Global) -> Result<String, AllocError> {
     let second = JsonReason::HasFraction.sentence();
     let third = JsonReason::EndInObject.sentence();
     format!(in alloc;
-        "{first}line 4: document refused: NotWhole at $[0]\nline 4, column 2, at $[0]: {second}\n\
+        "{first}line 4: document refused: NotWhole at $[0]\nline 4, column 2, at $[0]: {second} \
+        With --decimals jp-lines takes numbers of up to 38 digits exactly.\n\
         line 5: document refused: NotJson\nline 5, column 7: {third} \
         A document ends with its line: jp eval '$' writes it on one.\n"
     )
