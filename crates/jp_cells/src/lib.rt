@@ -18,8 +18,6 @@ mod fault;
 mod field;
 mod row;
 mod style;
-#[cfg(test)]
-mod tests;
 
 pub use columns::{Room, push_columns};
 pub use fault::RowFault;

@@ -30,6 +30,3 @@ pub use number::{Decimal, Number};
 pub use numbers::Numbers;
 pub use reading::number_of;
 pub use writing::push_number;
-
-#[cfg(test)]
-mod tests;

@@ -1,7 +1,9 @@
-//! The tests of the libraries below the programs: each public function once, beside what it must answer. They
-//! stand in a crate of their own, so that their proofs do not prove the libraries once more.
+//! The tests of the libraries below the programs, and of `jsonpath`: each public function once, beside what it must
+//! answer. They stand in a crate of their own, so that their proofs do not prove the libraries once more.
 #![tactic(auto)]
 
+#[cfg(test)]
+mod callers;
 #[cfg(test)]
 mod canon;
 #[cfg(test)]
@@ -17,6 +19,8 @@ mod exact;
 #[cfg(test)]
 mod explain;
 #[cfg(test)]
+mod finding;
+#[cfg(test)]
 mod flat;
 #[cfg(test)]
 mod held;
@@ -28,6 +32,8 @@ mod json;
 mod matching;
 #[cfg(test)]
 mod misread_decimals;
+#[cfg(test)]
+mod numbers;
 #[cfg(test)]
 mod query;
 #[cfg(test)]

@@ -49,8 +49,6 @@
 mod fault;
 mod finding;
 mod size;
-#[cfg(test)]
-mod tests;
 
 pub use fault::FindFault;
 pub use finding::{Match, find, find_nodes, find_within};

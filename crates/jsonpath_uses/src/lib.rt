@@ -8,8 +8,6 @@ mod caret;
 mod filter;
 mod first;
 mod paths;
-#[cfg(test)]
-mod tests;
 
 pub use caret::show_refusal;
 pub use filter::{BORN_IN_THE_1800S, ids_of_the_1800s};

@@ -1,6 +1,6 @@
 //! Rows by the examples of RFC 4180, and the row of a document.
 
-use crate::{Format, Room, RowFault, Style, push_columns, push_row};
+use jp_cells::{Format, Room, RowFault, Style, push_columns, push_row};
 use jp_check::{Profile, read_query};
 use jp_held::Document;
 use jp_limit::OutputLimit;

@@ -1,7 +1,7 @@
-//! The calls of this crate, and that those of the crates below are at hand.
+//! The calls of `jsonpath`, and that those of the crates below are at hand.
 
-use crate::Profile::{Extended, Standard};
-use crate::{
+use jsonpath::Profile::{Extended, Standard};
+use jsonpath::{
     Document, FindFault, OutputLimit, Steps, canon, find, find_nodes, find_within, path_text,
     read_query,
 };

@@ -1,7 +1,7 @@
 //! Numbers by the rules of RFC 8259 section 6 and by arithmetic, and their texts by those of RFC
 //! 8785.
 
-use crate::{Decimal, Number, compare, number_of, push_number};
+use jp_decimal::{Decimal, Number, compare, number_of, push_number};
 use std::cmp::Ordering;
 use std::test::Fail;
 

@@ -1,8 +1,8 @@
 //! Each caller once, with values by hand.
 
-use crate::{all_paths, first_or, ids_of_the_1800s, is_any, show_refusal, value_at_path};
 use jsonpath::Profile::Standard;
 use jsonpath::{Document, Json, Marks, PathFault, evaluate, path_text, read_query, value_text};
+use jsonpath_uses::{all_paths, first_or, ids_of_the_1800s, is_any, show_refusal, value_at_path};
 use std::test::Fail;
 
 const STORE: &[u8] = br#"{"book":[{"title":"A","price":9},{"title":"B","price":12}]}"#;
