@@ -354,7 +354,7 @@ static const struct row deep[] = {
     {"filters from the root", NESTED("$", "[?@.a||@&&!$", "", "]", "", 128), LISTS, 0},
     {"filters in parentheses", NESTED("$", "[?@.a||@&&!(@.b||@&&!@", "", ")]", "", 64), LISTS, 0},
     {"parentheses", NESTED("$[?", "(@.b||@&&!", "@", ")", "]", 127), ONE("[1]"), 0},
-    {"calls", NESTED("$[?", "length(", "@", ")", "==@.a]", 127), ONE("[[]]"), 0},
+    {"calls in calls", NESTED("$[?", "length(", "@", ")", "==@.a]", 127), ONE("[[]]"), 0},
     {"counts", NESTED("$[?", "count(@[?", "1==1", "])==1", "]", 63), LISTS, 0},
     {"values", NESTED("$[?", "value(@[?1==1,?", "1==1", "])==1", "]", 8), LISTS, 0},
     {"counts of all ways", NESTED("$[?", "count(@..[?", "1==1", "])==1", "]", 2), LISTS, 0},

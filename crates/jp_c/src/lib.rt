@@ -35,8 +35,6 @@ mod numbers;
 mod outcome;
 mod planned;
 mod refused;
-#[cfg(test)]
-mod tests;
 
 pub use asking::{jp_ask, jp_ask_document};
 pub use explained::{Part, jp_explain};
