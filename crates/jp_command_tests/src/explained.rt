@@ -6,9 +6,8 @@ mod forms;
 mod paths;
 
 use super::devices::Drip;
-use super::rows::{assert_ended, words};
+use super::rows::{assert_ended, status_over, words};
 use super::texts::nested;
-use jp_command::{Device, run_line};
 use jp_explain::Reason;
 use jp_explain::Surroundings::Shell;
 use jp_json::JsonReason;
@@ -166,12 +165,12 @@ fn assert_stops(
     for taken in 0..=text.len() {
         let mut drip = Drip::new(alloc, 1);
         drip.failing = taken.saturating_add(1);
-        let ended = run_line(
+        let ended = status_over(
             alloc,
             words(alloc, line)?,
-            &mut Device::new(document.as_bytes()),
-            &mut Device::new(Vec::new(alloc)),
-            &mut Device::new(&mut drip),
+            document.as_bytes(),
+            Vec::new(alloc),
+            &mut drip,
         );
         assert_eq!(rt; ended, status);
         assert!(rt; text.as_bytes().get(..taken) == Some(drip.taken.as_slice()));

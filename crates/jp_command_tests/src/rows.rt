@@ -5,9 +5,21 @@ use super::{forms, prefixes};
 use jp_check::Profile::{self, Decimal, Extended, ExtendedDecimal, Standard};
 use jp_command::{Device, run_line};
 use std::alloc::{AllocError, Global};
-use std::io::Read;
+use std::io::{Read, Write};
 use std::process::Abort;
 use std::test::Fail;
+
+/// The status of a run of these words over this input.
+pub fn status_over<I: Read + Drop, O: Write + Drop, F: Write + Drop>(
+    alloc: Global,
+    words: Vec<String>,
+    input: I,
+    output: O,
+    faults: F,
+) -> u8 {
+    let (input, output) = (&mut Device::new(input), &mut Device::new(output));
+    run_line(alloc, words, input, output, &mut Device::new(faults))
+}
 
 /// A document, a query, and what they give.
 pub type Row = (&'static str, &'static str, Answer);
@@ -124,12 +136,12 @@ pub fn assert_gives(
     let mut input = Trickle::new(document.as_bytes(), size);
     let mut output = Drip::new(alloc, size);
     let mut faults = Vec::new(alloc);
-    let ended = run_line(
+    let ended = status_over(
         alloc,
         profile_words(alloc, subcommand, query, profile)?,
-        &mut Device::new(&mut input),
-        &mut Device::new(&mut output),
-        &mut Device::new(&mut faults),
+        &mut input,
+        &mut output,
+        &mut faults,
     );
     assert_eq!(rt;
         (
@@ -203,13 +215,7 @@ pub fn ended<R: Read + Drop>(
 ) -> Result<(u8, Vec<u8>, Vec<u8>), AllocError> {
     let mut output = Vec::new(alloc);
     let mut faults = Vec::new(alloc);
-    let status = run_line(
-        alloc,
-        words(alloc, line)?,
-        &mut Device::new(input),
-        &mut Device::new(&mut output),
-        &mut Device::new(&mut faults),
-    );
+    let status = status_over(alloc, words(alloc, line)?, input, &mut output, &mut faults);
     Ok((status, output, faults))
 }
 

@@ -1,8 +1,7 @@
 //! The flags for scripts: `--first` and `--exit-status`.
 
 use super::devices::{Broken, Drip, Narrow};
-use super::rows::{assert_ended, ended, words};
-use jp_command::{Device, run_line};
+use super::rows::{assert_ended, ended, status_over, words};
 use std::test::Fail;
 
 /// Three texts in a list, one of them in an object, behind a number.
@@ -175,12 +174,12 @@ fn tells_that_the_output_failed(rt: HostRuntime) -> Result<(), Fail> {
         drip.failing = failing;
         drip.failing_flush = failing_flush;
         let mut faults = Narrow::new(rt.alloc(), 99, true);
-        let status = run_line(
+        let status = status_over(
             rt.alloc(),
             words(rt.alloc(), line)?,
-            &mut Device::new(DOCUMENT.as_bytes()),
-            &mut Device::new(&mut drip),
-            &mut Device::new(&mut faults),
+            DOCUMENT.as_bytes(),
+            &mut drip,
+            &mut faults,
         );
         assert_eq!(rt;
             (status, drip.taken.as_slice(), faults.taken.as_slice()),

@@ -1,9 +1,9 @@
 //! Each status of `run_line`, with its line.
 
 use super::devices::{Broken, Drip, Narrow};
-use super::rows::{assert_ended, ended, words};
+use super::rows::{assert_ended, ended, status_over, words};
 use super::table::names::{IN_QUOTES, NAMES};
-use jp_command::{Device, exit_status, run_line};
+use jp_command::{Device, exit_status};
 use std::alloc::Global;
 use std::io::{Error, ErrorKind, Read, Result as IoResult};
 use std::process::Abort;
@@ -247,12 +247,12 @@ fn tells_that_help_could_not_be_written(rt: HostRuntime) -> Result<(), Fail> {
         let mut output = Narrow::new(rt.alloc(), room, flushes);
         let mut faults = Vec::new(rt.alloc());
         let mut input = b"[1]".as_slice();
-        let status = run_line(
+        let status = status_over(
             rt.alloc(),
             words(rt.alloc(), &["jp", "--help"])?,
-            &mut Device::new(&mut input),
-            &mut Device::new(&mut output),
-            &mut Device::new(&mut faults),
+            &mut input,
+            &mut output,
+            &mut faults,
         );
         assert_eq!(rt; (status, input.len()), (5, 3));
         assert_eq!(rt; faults.as_slice(), b"write fault\n".as_slice());
@@ -281,12 +281,12 @@ fn assert_fault<R: Read + Drop>(
     line: &[u8],
 ) -> Result<(), Fail> {
     let mut faults = Vec::new(alloc);
-    let ended = run_line(
+    let ended = status_over(
         alloc,
         words(alloc, &["jp", "both", "$"])?,
-        &mut Device::new(input),
-        &mut Device::new(output),
-        &mut Device::new(&mut faults),
+        input,
+        output,
+        &mut faults,
     );
     assert_eq!(rt; (ended, faults.as_slice()), (5, line));
     Ok(())
@@ -311,12 +311,12 @@ fn flushes_only_an_output_that_took_all_and_only_once(rt: HostRuntime) -> Result
         let mut drip = Drip::new(alloc, 1);
         drip.failing = failing;
         drip.failing_flush = failing_flush;
-        let ended = run_line(
+        let ended = status_over(
             alloc,
             words(alloc, &["jp", "both", "$"])?,
-            &mut Device::new(b"[1]".as_slice()),
-            &mut Device::new(&mut drip),
-            &mut Device::new(Narrow::new(alloc, 99, true)),
+            b"[1]".as_slice(),
+            &mut drip,
+            Narrow::new(alloc, 99, true),
         );
         assert_eq!(rt; (ended, drip.flush_count), (5, flush_count));
     }
@@ -327,12 +327,12 @@ fn flushes_only_an_output_that_took_all_and_only_once(rt: HostRuntime) -> Result
 fn keeps_its_status_where_its_line_cannot_be_written(rt: HostRuntime) -> Result<(), Fail> {
     let alloc = rt.alloc();
     for (query, status) in [("$", 3), ("$[", 1)] {
-        let ended = run_line(
+        let ended = status_over(
             alloc,
             words(alloc, &["jp", "both", query])?,
-            &mut Device::new(b"".as_slice()),
-            &mut Device::new(Narrow::new(alloc, 99, true)),
-            &mut Device::new(Narrow::new(alloc, 7, true)),
+            b"".as_slice(),
+            Narrow::new(alloc, 99, true),
+            Narrow::new(alloc, 7, true),
         );
         assert_eq!(rt; ended, status);
     }

@@ -1,12 +1,12 @@
 //! What `--explain` adds to the report of a line that is refused.
 
-use super::devices::{Alone, Narrow, Trickle};
-use super::programs::{assert_ends, words};
+use super::devices::{Narrow, Trickle};
+use super::programs::{assert_ends, status_over};
 use jp_check::Profile::Standard;
 use jp_command::Device;
 use jp_json::JsonReason;
 use jp_limit::OutputLimit;
-use jp_lines::{Options, Wanted, run_lines, run_program};
+use jp_lines::{Options, Wanted, run_lines};
 use std::alloc::{AllocError, Global};
 use std::process::Abort;
 
@@ -233,15 +233,14 @@ fn assert_whole(
     told: &str,
 ) -> Result<(), AllocError> {
     let mut faults = Narrow::new(alloc, usize::MAX);
-    let ended = run_program(
+    let ended = status_over(
         alloc,
-        words(alloc, line)?,
-        &mut Alone::new(lines.as_bytes()),
-        &mut Device::new(Narrow::new(alloc, 0)),
-        &mut Device::new(&mut faults),
-    );
-    assert_eq!(rt; ended, 3);
-    assert!(rt; faults.taken.as_slice() == told.as_bytes());
+        line,
+        lines.as_bytes(),
+        Narrow::new(alloc, 0),
+        &mut faults,
+    )?;
+    assert_eq!(rt; (ended, faults.taken.as_slice()), (3, told.as_bytes()));
     Ok(())
 }
 
@@ -264,15 +263,17 @@ fn assert_prefixes(
 ) -> Result<(), AllocError> {
     for room in 0..=told.len() {
         let mut faults = Narrow::new(alloc, room);
-        let ended = run_program(
+        let ended = status_over(
             alloc,
-            words(alloc, line)?,
-            &mut Alone::new(LINES.as_bytes()),
-            &mut Device::new(Narrow::new(alloc, usize::MAX)),
-            &mut Device::new(&mut faults),
+            line,
+            LINES.as_bytes(),
+            Narrow::new(alloc, usize::MAX),
+            &mut faults,
+        )?;
+        assert_eq!(rt;
+            (ended, Some(faults.taken.as_slice())),
+            (3, told.as_bytes().get(..room))
         );
-        assert_eq!(rt; ended, 3);
-        assert!(rt; told.as_bytes().get(..room) == Some(faults.taken.as_slice()));
     }
     Ok(())
 }

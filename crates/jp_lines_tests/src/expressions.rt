@@ -1,11 +1,9 @@
 //! Texts that are no expressions of `keep`, and what is told of them.
 
-use super::devices::{Alone, Narrow};
-use super::programs::{assert_ends, words};
+use super::devices::Narrow;
+use super::programs::{assert_ends, status_over};
 use super::refusals::{Refused, told, too_long};
-use jp_command::Device;
 use jp_explain::Reason;
-use jp_lines::run_program;
 use std::alloc::{AllocError, Global};
 use std::process::Abort;
 use std::test::Fail;
@@ -213,15 +211,17 @@ fn nothing_of_an_explanation_follows_a_write_that_failed(
     let told = told(rt.alloc(), "@.a = 1", MENDED[0])?;
     for room in 0..told.len() {
         let mut faults = Narrow::new(rt.alloc(), room);
-        let ended = run_program(
+        let ended = status_over(
             rt.alloc(),
-            words(rt.alloc(), &["jp-lines", "keep", "@.a = 1"])?,
-            &mut Alone::new(b"1\n".as_slice()),
-            &mut Device::new(&mut Narrow::new(rt.alloc(), usize::MAX)),
-            &mut Device::new(&mut faults),
+            &["jp-lines", "keep", "@.a = 1"],
+            b"1\n".as_slice(),
+            &mut Narrow::new(rt.alloc(), usize::MAX),
+            &mut faults,
+        )?;
+        assert_eq!(rt;
+            (ended, Some(faults.taken.as_slice())),
+            (1, told.as_bytes().get(..room))
         );
-        assert_eq!(rt; ended, 1);
-        assert!(rt; told.as_bytes().get(..room) == Some(faults.taken.as_slice()));
     }
     Ok(())
 }

@@ -1,13 +1,11 @@
 //! Runs over several inputs, some of which can't be opened or read.
 
 use super::devices::{Kept, Narrow, Shelf};
-use super::programs::words;
+use super::programs::status_of;
 use super::refusals::told;
-use jp_command::Device;
 use jp_explain::Reason;
 use jp_json::JsonReason;
 use jp_lines::Unopened::{Failed, NotPermitted};
-use jp_lines::run_program;
 use std::alloc::{AllocError, Global};
 use std::process::Abort;
 
@@ -40,13 +38,7 @@ fn assert_ends(
     };
     let mut output = Narrow::new(alloc, usize::MAX);
     let mut faults = Narrow::new(alloc, usize::MAX);
-    let ended = run_program(
-        alloc,
-        words(alloc, line)?,
-        &mut shelf,
-        &mut Device::new(&mut output),
-        &mut Device::new(&mut faults),
-    );
+    let ended = status_of(alloc, line, &mut shelf, &mut output, &mut faults)?;
     let written_is = output.taken.as_slice() == written.as_bytes();
     let told_is = faults.taken.as_slice() == told.as_bytes();
     assert_eq!(rt; (ended, shelf.asked), (status, asked));
@@ -348,16 +340,16 @@ fn assert_fails(
         ..Narrow::new(alloc, room)
     };
     let mut faults = Narrow::new(alloc, usize::MAX);
-    let ended = run_program(
-        alloc,
-        words(alloc, line)?,
-        &mut shelf,
-        &mut Device::new(&mut output),
-        &mut Device::new(&mut faults),
+    let ended = status_of(alloc, line, &mut shelf, &mut output, &mut faults)?;
+    assert_eq!(rt;
+        (
+            ended,
+            output.flushes,
+            output.taken.as_slice(),
+            faults.taken.as_slice()
+        ),
+        (5, 0, written.as_bytes(), told.as_bytes())
     );
-    assert_eq!(rt; (ended, output.flushes), (5, 0));
-    assert!(rt; output.taken.as_slice() == written.as_bytes());
-    assert!(rt; faults.taken.as_slice() == told.as_bytes());
     Ok(())
 }
 
@@ -396,18 +388,17 @@ fn tells_of_the_standard_input_alone_without_a_name(rt: HostRuntime) -> Result<(
     ];
     for (line, kept, told) in rows {
         let mut faults = Narrow::new(rt.alloc(), usize::MAX);
-        let ended = run_program(
+        let ended = status_of(
             rt.alloc(),
-            words(rt.alloc(), line)?,
+            line,
             &mut Shelf {
                 kept: &[("-", kept)],
                 asked: 0,
             },
-            &mut Device::new(Narrow::new(rt.alloc(), usize::MAX)),
-            &mut Device::new(&mut faults),
-        );
-        assert_eq!(rt; ended, 5);
-        assert!(rt; faults.taken.as_slice() == told.as_bytes());
+            Narrow::new(rt.alloc(), usize::MAX),
+            &mut faults,
+        )?;
+        assert_eq!(rt; (ended, faults.taken.as_slice()), (5, told.as_bytes()));
     }
     Ok(())
 }

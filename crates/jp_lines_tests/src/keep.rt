@@ -1,9 +1,7 @@
 //! Lines that are kept by an expression, byte for byte, and those that are not.
 
-use super::devices::{Alone, Narrow, Trickle};
-use super::programs::{assert_ends, words};
-use jp_command::Device;
-use jp_lines::run_program;
+use super::devices::{Narrow, Trickle};
+use super::programs::{assert_ends, status_over};
 use std::alloc::{AllocError, Global};
 use std::process::Abort;
 
@@ -135,19 +133,17 @@ fn keeps_the_same_however_many_bytes_a_read_gives(rt: HostRuntime) -> Result<(),
             size,
             fails: false,
         };
-        let ended = run_program(
+        let ended = status_over(
             rt.alloc(),
-            words(
-                rt.alloc(),
-                &["jp-lines", "keep", "@.status >= 500", "--keep-going"],
-            )?,
-            &mut Alone::new(input),
-            &mut Device::new(&mut output),
-            &mut Device::new(&mut faults),
+            &["jp-lines", "keep", "@.status >= 500", "--keep-going"],
+            input,
+            &mut output,
+            &mut faults,
+        )?;
+        assert_eq!(rt;
+            (ended, output.taken.as_slice(), faults.taken.as_slice()),
+            (3, SEVERE.as_bytes(), NO_JSON.as_bytes())
         );
-        assert_eq!(rt; ended, 3);
-        assert!(rt; output.taken.as_slice() == SEVERE.as_bytes());
-        assert!(rt; faults.taken.as_slice() == NO_JSON.as_bytes());
     }
     Ok(())
 }
@@ -171,19 +167,21 @@ fn says_by_its_status_whether_a_line_is_kept(rt: HostRuntime) -> Result<(), Allo
 fn assert_prefix(rt: &impl Abort, alloc: Global, room: usize) -> Result<(), AllocError> {
     let mut output = Narrow::new(alloc, room);
     let mut faults = Narrow::new(alloc, usize::MAX);
-    let ended = run_program(
+    let ended = status_over(
         alloc,
-        words(
-            alloc,
-            &["jp-lines", "keep", "--keep-going", "@.status >= 500"],
-        )?,
-        &mut Alone::new(LOG.as_bytes()),
-        &mut Device::new(&mut output),
-        &mut Device::new(&mut faults),
+        &["jp-lines", "keep", "--keep-going", "@.status >= 500"],
+        LOG.as_bytes(),
+        &mut output,
+        &mut faults,
+    )?;
+    assert_eq!(rt;
+        (
+            ended,
+            Some(output.taken.as_slice()),
+            faults.taken.as_slice().ends_with(b"write fault\n")
+        ),
+        (5, SEVERE.as_bytes().get(..room), true)
     );
-    assert_eq!(rt; ended, 5);
-    assert!(rt; SEVERE.as_bytes().get(..room) == Some(output.taken.as_slice()));
-    assert!(rt; faults.taken.as_slice().ends_with(b"write fault\n"));
     Ok(())
 }
 

@@ -4,8 +4,9 @@ use super::devices::{Alone, Narrow, Trickle, Unflushed};
 use super::refusals::{Refused, told, too_long};
 use jp_command::Device;
 use jp_explain::Reason;
-use jp_lines::run_program;
+use jp_lines::{Inputs, run_program};
 use std::alloc::{AllocError, Global};
+use std::io::{Read, Write};
 use std::process::Abort;
 use std::test::Fail;
 
@@ -20,6 +21,30 @@ pub fn words(alloc: Global, line: &[&str]) -> Result<Vec<String>, AllocError> {
         words.push(String::from_str(alloc, *word)?)?;
     }
     Ok(words)
+}
+
+/// The status of a run over these inputs.
+pub fn status_of<I: Inputs, O: Write + Drop, F: Write + Drop>(
+    alloc: Global,
+    line: &[&str],
+    inputs: &mut I,
+    output: O,
+    faults: F,
+) -> Result<u8, AllocError> {
+    let words = words(alloc, line)?;
+    let (output, faults) = (&mut Device::new(output), &mut Device::new(faults));
+    Ok(run_program(alloc, words, inputs, output, faults))
+}
+
+/// The status of a run over this standard input.
+pub fn status_over<I: Read + Drop, O: Write + Drop, F: Write + Drop>(
+    alloc: Global,
+    line: &[&str],
+    input: I,
+    output: O,
+    faults: F,
+) -> Result<u8, AllocError> {
+    status_of(alloc, line, &mut Alone::new(input), output, faults)
 }
 
 /// How a program ends: its status, what it writes, what it tells, and how often it flushes.
@@ -41,17 +66,16 @@ pub fn assert_ends(
         size: 3,
         fails,
     };
-    let ended = run_program(
-        alloc,
-        words(alloc, line)?,
-        &mut Alone::new(input),
-        &mut Device::new(&mut output),
-        &mut Device::new(&mut faults),
+    let ended = status_over(alloc, line, input, &mut output, &mut faults)?;
+    assert_eq!(rt;
+        (
+            ended,
+            output.taken.as_slice(),
+            faults.taken.as_slice(),
+            output.flushes
+        ),
+        (status, written.as_bytes(), told.as_bytes(), flushes)
     );
-    assert_eq!(rt; ended, status);
-    assert!(rt; output.taken.as_slice() == written.as_bytes());
-    assert!(rt; faults.taken.as_slice() == told.as_bytes());
-    assert_eq!(rt; output.flushes, flushes);
     Ok(())
 }
 
@@ -141,16 +165,17 @@ fn flushes_after_each_document_where_that_is_asked_for(rt: HostRuntime) -> Resul
         taken: Vec::new(rt.alloc()),
     };
     let mut faults = Narrow::new(rt.alloc(), usize::MAX);
-    let ended = run_program(
+    let ended = status_over(
         rt.alloc(),
-        words(rt.alloc(), &["jp-lines", "eval", "--line-buffered", "$[0]"])?,
-        &mut Alone::new(b"[1]\n[2]\n".as_slice()),
-        &mut Device::new(&mut output),
-        &mut Device::new(&mut faults),
+        &["jp-lines", "eval", "--line-buffered", "$[0]"],
+        b"[1]\n[2]\n".as_slice(),
+        &mut output,
+        &mut faults,
+    )?;
+    assert_eq!(rt;
+        (ended, output.taken.as_slice(), faults.taken.as_slice()),
+        (5, "1\n".as_bytes(), "write fault\n".as_bytes())
     );
-    assert_eq!(rt; ended, 5);
-    assert!(rt; output.taken.as_slice() == "1\n".as_bytes());
-    assert!(rt; faults.taken.as_slice() == "write fault\n".as_bytes());
     Ok(())
 }
 
@@ -247,15 +272,16 @@ fn refuses_words_that_name_no_run(rt: HostRuntime) -> Result<(), AllocError> {
         };
         let mut output = Narrow::new(rt.alloc(), usize::MAX);
         let mut faults = Narrow::new(rt.alloc(), usize::MAX);
-        let ended = run_program(
-            rt.alloc(),
-            words(rt.alloc(), line)?,
-            &mut Alone::new(&mut input),
-            &mut Device::new(&mut output),
-            &mut Device::new(&mut faults),
+        let ended = status_over(rt.alloc(), line, &mut input, &mut output, &mut faults)?;
+        assert_eq!(rt;
+            (
+                ended,
+                input.bytes.len(),
+                output.taken.len(),
+                !faults.taken.is_empty()
+            ),
+            (2, 3, 0, true)
         );
-        assert_eq!(rt; (ended, input.bytes.len(), output.taken.len()), (2, 3, 0));
-        assert!(rt; !faults.taken.is_empty());
     }
     Ok(())
 }
@@ -299,13 +325,7 @@ fn writes_help_and_the_version(rt: HostRuntime) -> Result<(), Fail> {
         let mut output = Narrow::new(rt.alloc(), usize::MAX);
         let mut faults = Narrow::new(rt.alloc(), usize::MAX);
         let mut lines = b"[1]".as_slice();
-        let ended = run_program(
-            rt.alloc(),
-            words(rt.alloc(), line)?,
-            &mut Alone::new(&mut lines),
-            &mut Device::new(&mut output),
-            &mut Device::new(&mut faults),
-        );
+        let ended = status_over(rt.alloc(), line, &mut lines, &mut output, &mut faults)?;
         assert_eq!(rt;
             (ended, output.flushes, faults.taken.len(), lines.len()),
             (0, 1, 0, 3)
@@ -321,43 +341,51 @@ fn tells_that_help_could_not_be_written(rt: HostRuntime) -> Result<(), AllocErro
     for room in [0, 1, 100] {
         let mut output = Narrow::new(rt.alloc(), room);
         let mut faults = Narrow::new(rt.alloc(), usize::MAX);
-        let ended = run_program(
+        let ended = status_over(
             rt.alloc(),
-            words(rt.alloc(), &["jp-lines", "--help"])?,
-            &mut Alone::new(b"[1]".as_slice()),
-            &mut Device::new(&mut output),
-            &mut Device::new(&mut faults),
+            &["jp-lines", "--help"],
+            b"[1]".as_slice(),
+            &mut output,
+            &mut faults,
+        )?;
+        assert_eq!(rt;
+            (
+                ended,
+                output.taken.len(),
+                output.flushes,
+                faults.taken.as_slice()
+            ),
+            (5, room, 0, "write fault\n".as_bytes())
         );
-        assert_eq!(rt; (ended, output.taken.len(), output.flushes), (5, room, 0));
-        assert!(rt; faults.taken.as_slice() == "write fault\n".as_bytes());
     }
     let mut output = Unflushed {
         taken: Vec::new(rt.alloc()),
     };
     let mut faults = Narrow::new(rt.alloc(), usize::MAX);
-    let ended = run_program(
+    let ended = status_over(
         rt.alloc(),
-        words(rt.alloc(), &["jp-lines", "--version"])?,
-        &mut Alone::new(b"[1]".as_slice()),
-        &mut Device::new(&mut output),
-        &mut Device::new(&mut faults),
+        &["jp-lines", "--version"],
+        b"[1]".as_slice(),
+        &mut output,
+        &mut faults,
+    )?;
+    assert_eq!(rt;
+        (ended, output.taken.as_slice(), faults.taken.as_slice()),
+        (5, "jp-lines 0.1.0\n".as_bytes(), "write fault\n".as_bytes())
     );
-    assert_eq!(rt; ended, 5);
-    assert!(rt; output.taken.as_slice() == "jp-lines 0.1.0\n".as_bytes());
-    assert!(rt; faults.taken.as_slice() == "write fault\n".as_bytes());
     Ok(())
 }
 
 #[test]
 fn tells_where_the_names_of_files_go(rt: HostRuntime) -> Result<(), Fail> {
     let mut faults = Narrow::new(rt.alloc(), usize::MAX);
-    let ended = run_program(
+    let ended = status_over(
         rt.alloc(),
-        words(rt.alloc(), &["jp-lines", "eval", "--file", "d.jsonl", "$"])?,
-        &mut Alone::new(b"[1]".as_slice()),
-        &mut Device::new(Narrow::new(rt.alloc(), usize::MAX)),
-        &mut Device::new(&mut faults),
-    );
+        &["jp-lines", "eval", "--file", "d.jsonl", "$"],
+        b"[1]".as_slice(),
+        Narrow::new(rt.alloc(), usize::MAX),
+        &mut faults,
+    )?;
     let text = str::from_utf8(faults.taken.as_slice())?;
     let part = "\nUsage: jp-lines eval [OPTIONS] <QUERY> [FILE]..\n";
     assert!(rt; ended == 2 && text.contains(part), "{text}");
@@ -369,15 +397,17 @@ fn explains_a_refused_query_until_a_write_fails(rt: HostRuntime) -> Result<(), A
     let told = told(rt.alloc(), UNKNOWN.0, UNKNOWN)?;
     for room in 0..=told.len() {
         let mut faults = Narrow::new(rt.alloc(), room);
-        let ended = run_program(
+        let ended = status_over(
             rt.alloc(),
-            words(rt.alloc(), &["jp-lines", "count", "$[?distinct(@[*])]"])?,
-            &mut Alone::new(b"[]".as_slice()),
-            &mut Device::new(Narrow::new(rt.alloc(), usize::MAX)),
-            &mut Device::new(&mut faults),
+            &["jp-lines", "count", "$[?distinct(@[*])]"],
+            b"[]".as_slice(),
+            Narrow::new(rt.alloc(), usize::MAX),
+            &mut faults,
+        )?;
+        assert_eq!(rt;
+            (ended, Some(faults.taken.as_slice())),
+            (1, told.as_bytes().get(..room))
         );
-        assert_eq!(rt; ended, 1);
-        assert!(rt; told.as_bytes().get(..room) == Some(faults.taken.as_slice()));
     }
     Ok(())
 }
@@ -389,16 +419,17 @@ fn tells_that_a_flush_failed(rt: HostRuntime) -> Result<(), AllocError> {
             taken: Vec::new(rt.alloc()),
         };
         let mut faults = Narrow::new(rt.alloc(), usize::MAX);
-        let ended = run_program(
+        let ended = status_over(
             rt.alloc(),
-            words(rt.alloc(), &["jp-lines", "eval", "$[0]"])?,
-            &mut Alone::new(lines.as_bytes()),
-            &mut Device::new(&mut output),
-            &mut Device::new(&mut faults),
+            &["jp-lines", "eval", "$[0]"],
+            lines.as_bytes(),
+            &mut output,
+            &mut faults,
+        )?;
+        assert_eq!(rt;
+            (ended, output.taken.as_slice(), faults.taken.as_slice()),
+            (5, "1\n".as_bytes(), "write fault\n".as_bytes())
         );
-        assert_eq!(rt; ended, 5);
-        assert!(rt; output.taken.as_slice() == "1\n".as_bytes());
-        assert!(rt; faults.taken.as_slice() == "write fault\n".as_bytes());
     }
     Ok(())
 }
@@ -414,16 +445,17 @@ fn tells_a_flush_that_failed_after_a_read_that_did(rt: HostRuntime) -> Result<()
         size: 3,
         fails: true,
     };
-    let ended = run_program(
+    let ended = status_over(
         rt.alloc(),
-        words(rt.alloc(), &["jp-lines", "eval", "$[0]"])?,
-        &mut Alone::new(input),
-        &mut Device::new(&mut output),
-        &mut Device::new(&mut faults),
+        &["jp-lines", "eval", "$[0]"],
+        input,
+        &mut output,
+        &mut faults,
+    )?;
+    assert_eq!(rt;
+        (ended, output.taken.as_slice(), faults.taken.as_slice()),
+        (5, "1\n".as_bytes(), "write fault\n".as_bytes())
     );
-    assert_eq!(rt; ended, 5);
-    assert!(rt; output.taken.as_slice() == "1\n".as_bytes());
-    assert!(rt; faults.taken.as_slice() == "write fault\n".as_bytes());
     Ok(())
 }
 
@@ -431,16 +463,22 @@ fn tells_a_flush_that_failed_after_a_read_that_did(rt: HostRuntime) -> Result<()
 fn flushes_no_output_whose_write_failed(rt: HostRuntime) -> Result<(), AllocError> {
     let mut output = Narrow::new(rt.alloc(), 1);
     let mut faults = Narrow::new(rt.alloc(), usize::MAX);
-    let ended = run_program(
+    let ended = status_over(
         rt.alloc(),
-        words(rt.alloc(), &["jp-lines", "eval", "$[0]"])?,
-        &mut Alone::new(b"[1]\n[2]\n".as_slice()),
-        &mut Device::new(&mut output),
-        &mut Device::new(&mut faults),
+        &["jp-lines", "eval", "$[0]"],
+        b"[1]\n[2]\n".as_slice(),
+        &mut output,
+        &mut faults,
+    )?;
+    assert_eq!(rt;
+        (
+            ended,
+            output.flushes,
+            output.taken.as_slice(),
+            faults.taken.as_slice()
+        ),
+        (5, 0, "1".as_bytes(), "write fault\n".as_bytes())
     );
-    assert_eq!(rt; (ended, output.flushes), (5, 0));
-    assert!(rt; output.taken.as_slice() == "1".as_bytes());
-    assert!(rt; faults.taken.as_slice() == "write fault\n".as_bytes());
     Ok(())
 }
 
@@ -448,15 +486,14 @@ fn flushes_no_output_whose_write_failed(rt: HostRuntime) -> Result<(), AllocErro
 fn writes_no_more_faults_after_one_that_failed(rt: HostRuntime) -> Result<(), AllocError> {
     let mut output = Narrow::new(rt.alloc(), 1);
     let mut faults = Narrow::new(rt.alloc(), 4);
-    let ended = run_program(
+    let ended = status_over(
         rt.alloc(),
-        words(rt.alloc(), &["jp-lines", "eval", "--keep-going", "$[0]"])?,
-        &mut Alone::new(b"x\n[1]\n".as_slice()),
-        &mut Device::new(&mut output),
-        &mut Device::new(&mut faults),
-    );
-    assert_eq!(rt; ended, 5);
-    assert!(rt; faults.taken.as_slice() == "line".as_bytes());
+        &["jp-lines", "eval", "--keep-going", "$[0]"],
+        b"x\n[1]\n".as_slice(),
+        &mut output,
+        &mut faults,
+    )?;
+    assert_eq!(rt; (ended, faults.taken.as_slice()), (5, "line".as_bytes()));
     Ok(())
 }
 
