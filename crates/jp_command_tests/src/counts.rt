@@ -10,7 +10,7 @@ use jp_select::Steps;
 use std::test::Fail;
 
 /// A query, how many nodes are asked for, how many of these there are, and their lines.
-const ROWS: [(&str, Option<u64>, u64, &str); 5] = [
+const ROWS: &[(&str, Option<u64>, u64, &str)] = &[
     ("$", None, 1, "[1,[2,2]]\n"),
     ("$..*", None, 4, "1\n[2,2]\n2\n2\n"),
     ("$..*", Some(3), 3, "1\n[2,2]\n2\n"),
@@ -22,7 +22,7 @@ const ROWS: [(&str, Option<u64>, u64, &str); 5] = [
 fn lines_are_counted(rt: HostRuntime) -> Result<(), Fail> {
     let alloc = rt.alloc();
     let document = Document::read(alloc, b"[1,[2,2]]")?;
-    for (query, most, count, text) in ROWS {
+    for &(query, most, count, text) in ROWS {
         let query = read_query(alloc, query, Profile::Standard)
             .ok()
             .ok_or("refused")?;
@@ -44,7 +44,7 @@ fn lines_are_counted(rt: HostRuntime) -> Result<(), Fail> {
 
 /// A query, how many nodes are asked for, how many of these there are, and how many bytes their lines have behind
 /// a text of two: of `[1,[2,2]]` the values `1`, `[2,2]`, `2` and `2`.
-const LIMITED: [(&str, Option<u64>, u64, u64); 4] = [
+const LIMITED: &[(&str, Option<u64>, u64, u64)] = &[
     ("$", None, 1, 12),
     ("$..*", None, 4, 20),
     ("$..*", Some(2), 2, 12),
@@ -55,7 +55,7 @@ const LIMITED: [(&str, Option<u64>, u64, u64); 4] = [
 fn lines_keep_to_a_limit(rt: HostRuntime) -> Result<(), Fail> {
     let alloc = rt.alloc();
     let document = Document::read(alloc, b"[1,[2,2]]")?;
-    for (query, most, nodes, bytes) in LIMITED {
+    for &(query, most, nodes, bytes) in LIMITED {
         let query = read_query(alloc, query, Profile::Standard)
             .ok()
             .ok_or("refused")?;

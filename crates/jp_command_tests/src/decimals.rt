@@ -24,7 +24,7 @@ const NUMBERS: &str =
     r#"[1,1.0,1e0,9007199254740993,9007199254740993.5,9007199254740992,0.1,0.10000000000000000555,1e400]"#;
 
 /// A line of words behind `jp`, a document, and what is written (of the store: RFC 9535 section 1.5, Table 2).
-const ROWS: [(&[&str], &str, &str); 17] = [
+const ROWS: &[(&[&str], &str, &str)] = &[
     (
         &["jp", "eval", "--decimals", "$.store.book[*].author"],
         STORE,
@@ -139,7 +139,7 @@ const ROWS: [(&[&str], &str, &str); 17] = [
 ];
 
 /// A line of words behind `jp`, a document, and the line that tells why it is refused.
-const REFUSED: [(&[&str], &str, &str); 6] = [
+const REFUSED: &[(&[&str], &str, &str)] = &[
     (
         &["jp", "eval", "$.store"],
         STORE,
@@ -190,7 +190,7 @@ fn assert_ends(
 
 #[test]
 fn decimals_are_read_compared_and_written_exactly(rt: HostRuntime) -> Result<(), Fail> {
-    for (line, document, text) in ROWS {
+    for &(line, document, text) in ROWS {
         assert_ends(&rt, rt.alloc(), line, document, (text, ""))?;
     }
     Ok(())
@@ -198,7 +198,7 @@ fn decimals_are_read_compared_and_written_exactly(rt: HostRuntime) -> Result<(),
 
 #[test]
 fn what_is_no_decimal_is_refused(rt: HostRuntime) -> Result<(), Fail> {
-    for (line, document, told) in REFUSED {
+    for &(line, document, told) in REFUSED {
         assert_ends(&rt, rt.alloc(), line, document, ("", told))?;
     }
     Ok(())

@@ -7,7 +7,7 @@ use jp_command::{Device, Form, run_eval};
 const DOCUMENT: &str = r#"["a\"b\\","c\nd\t\u00e9","","7",7,null,["x"],{"k":"v"}]"#;
 
 /// A form, a query, and what is written.
-const ROWS: [(Form, &str, &str); 6] = [
+const ROWS: &[(Form, &str, &str)] = &[
     (
         Form::RAW_VALUES,
         "$[*]",
@@ -27,7 +27,7 @@ const ROWS: [(Form, &str, &str); 6] = [
 
 #[test]
 fn strings_are_written_by_their_characters(rt: HostRuntime) {
-    for (form, query, text) in ROWS {
+    for &(form, query, text) in ROWS {
         let mut written = Vec::new(rt.alloc());
         let run = run_eval(
             rt.alloc(),

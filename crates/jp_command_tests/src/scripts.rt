@@ -8,7 +8,7 @@ use std::test::Fail;
 const DOCUMENT: &str = r#"[7,"a b",{"k":"v"},"c"]"#;
 
 /// Words with `--first`, and what is written.
-const FIRST: [(&[&str], &str); 15] = [
+const FIRST: &[(&[&str], &str)] = &[
     (&["jp", "eval", "--first", "$[*]"], "7\n"),
     (&["jp", "eval", "$[1:]", "--first"], "\"a b\"\n"),
     (&["jp", "eval", "--first", "$..k"], "\"v\"\n"),
@@ -31,14 +31,14 @@ const FIRST: [(&[&str], &str); 15] = [
 
 #[test]
 fn writes_the_first_node_alone(rt: HostRuntime) -> Result<(), Fail> {
-    for (line, written) in FIRST {
+    for &(line, written) in FIRST {
         assert_ended(&rt, rt.alloc(), line, DOCUMENT.as_bytes(), (0, written, ""))?;
     }
     Ok(())
 }
 
 /// Words with `--exit-status` or without it, the status, and what is written.
-const STATUSES: [(&[&str], u8, &str); 17] = [
+const STATUSES: &[(&[&str], u8, &str)] = &[
     (&["jp", "eval", "--exit-status", "$[2].k"], 0, "\"v\"\n"),
     (&["jp", "eval", "--exit-status", "$[:2]"], 0, "7\n\"a b\"\n"),
     (&["jp", "eval", "$.nothere", "--exit-status"], 6, ""),
@@ -72,7 +72,7 @@ const STATUSES: [(&[&str], u8, &str); 17] = [
 
 #[test]
 fn the_status_tells_whether_a_node_is_selected(rt: HostRuntime) -> Result<(), Fail> {
-    for (line, status, written) in STATUSES {
+    for &(line, status, written) in STATUSES {
         assert_ended(
             &rt,
             rt.alloc(),
@@ -97,7 +97,7 @@ fn the_status_tells_whether_a_node_is_selected(rt: HostRuntime) -> Result<(), Fa
 }
 
 /// Words with these flags that end otherwise, the document, the status and what is told.
-const REFUSED: [(&[&str], &str, u8, &str); 7] = [
+const REFUSED: &[(&[&str], &str, u8, &str)] = &[
     (
         &["jp", "eval", "--first", "$["],
         DOCUMENT,
@@ -145,7 +145,7 @@ const REFUSED: [(&[&str], &str, u8, &str); 7] = [
 
 #[test]
 fn refuses_as_without_them(rt: HostRuntime) -> Result<(), Fail> {
-    for (line, document, status, told) in REFUSED {
+    for &(line, document, status, told) in REFUSED {
         assert_ended(
             &rt,
             rt.alloc(),
@@ -158,7 +158,7 @@ fn refuses_as_without_them(rt: HostRuntime) -> Result<(), Fail> {
 }
 
 /// Words, the number of the write or of the flush that fails, and what is written before.
-const FAILING: [(&[&str], usize, u8, &str); 5] = [
+const FAILING: &[(&[&str], usize, u8, &str)] = &[
     (&["jp", "eval", "--first", "$[*]"], 2, 0, "7"),
     (&["jp", "both", "--first", "$[*]"], 5, 0, "$[0]"),
     (&["jp", "eval", "--first", "$[*]"], 0, 1, "7\n"),
@@ -169,7 +169,7 @@ const FAILING: [(&[&str], usize, u8, &str); 5] = [
 
 #[test]
 fn tells_that_the_output_failed(rt: HostRuntime) -> Result<(), Fail> {
-    for (line, failing, failing_flush, written) in FAILING {
+    for &(line, failing, failing_flush, written) in FAILING {
         let mut drip = Drip::new(rt.alloc(), 1);
         drip.failing = failing;
         drip.failing_flush = failing_flush;

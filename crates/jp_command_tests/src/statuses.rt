@@ -126,26 +126,27 @@ fn ends_as_its_words_ask(rt: HostRuntime) -> Result<(), Fail> {
     assert_ended(&rt, rt.alloc(), &line, b"\"\xff\"".as_slice(), refused)
 }
 
+const REFUSES_WORDS_THAT_IT_DOES_NOT_TAKE: &[&[&str]] = &[
+    &[],
+    &["jp"],
+    &["jp", "both"],
+    &["jp", "both", "$", "$"],
+    &["jp", "value", "$"],
+    &["jp", "both", "--extended"],
+    &["jp", "both", "--extended", "$", "--extended"],
+    &["jp", "both", "--extended", "--extended", "$"],
+    &["jp", "both", "--explain"],
+    &["jp", "both", "--explain", "$", "--explain"],
+    &["jp", "--extended", "both", "$"],
+    &["jp", "both", "--", "$", "--extended"],
+    &["jp", "both", "--extended=true", "$"],
+    &["jp", "both", "--extend", "$"],
+    &["jp", "both", "-e", "$"],
+];
+
 #[test]
 fn refuses_words_that_it_does_not_take(rt: HostRuntime) -> Result<(), Fail> {
-    let lines: [&[&str]; 15] = [
-        &[],
-        &["jp"],
-        &["jp", "both"],
-        &["jp", "both", "$", "$"],
-        &["jp", "value", "$"],
-        &["jp", "both", "--extended"],
-        &["jp", "both", "--extended", "$", "--extended"],
-        &["jp", "both", "--extended", "--extended", "$"],
-        &["jp", "both", "--explain"],
-        &["jp", "both", "--explain", "$", "--explain"],
-        &["jp", "--extended", "both", "$"],
-        &["jp", "both", "--", "$", "--extended"],
-        &["jp", "both", "--extended=true", "$"],
-        &["jp", "both", "--extend", "$"],
-        &["jp", "both", "-e", "$"],
-    ];
-    for line in lines {
+    for &line in REFUSES_WORDS_THAT_IT_DOES_NOT_TAKE {
         let (status, output, faults) = ended(rt.alloc(), line, b"[1]".as_slice())?;
         assert_eq!(rt; (status, output.len(), faults.is_empty()), (2, 0, false));
     }

@@ -22,28 +22,29 @@ const CSV: Style = Style {
 
 const RAW_CSV: Style = Style { raw: true, ..CSV };
 
+const ROWS: &[(Style, &[&str], &str)] = &[
+    // RFC 4180 section 2, rules 1 and 4 to 7
+    (CSV, &["aaa", "bbb", "ccc"], "aaa,bbb,ccc\r\n"),
+    (CSV, &["aaa", "b\r\nbb", "ccc"], "aaa,\"b\r\nbb\",ccc\r\n"),
+    (CSV, &["aaa", "b\"bb", "ccc"], "aaa,\"b\"\"bb\",ccc\r\n"),
+    (CSV, &["a,b", " c "], "\"a,b\", c \r\n"),
+    (CSV, &["\"", "\"\""], "\"\"\"\",\"\"\"\"\"\"\r\n"),
+    (CSV, &["", ""], ",\r\n"),
+    (CSV, &[""], "\"\"\r\n"),
+    (TABS, &["1", "[2,3]", ""], "1\t[2,3]\t\n"),
+    (TABS, &[""], "\n"),
+    (TABS, &["\"a\\nb\""], "\"a\\nb\"\n"),
+    (
+        RAW_TABS,
+        &["a\tb", "\\", "c\r\nd"],
+        "a\\tb\t\\\\\tc\\r\\nd\n",
+    ),
+    (RAW_TABS, &["été", "\"x\", y"], "été\t\"x\", y\n"),
+];
+
 #[test]
 fn rows(rt: HostRuntime) -> Result<(), Fail> {
-    let table: [(Style, &[&str], &str); 12] = [
-        // RFC 4180 section 2, rules 1 and 4 to 7
-        (CSV, &["aaa", "bbb", "ccc"], "aaa,bbb,ccc\r\n"),
-        (CSV, &["aaa", "b\r\nbb", "ccc"], "aaa,\"b\r\nbb\",ccc\r\n"),
-        (CSV, &["aaa", "b\"bb", "ccc"], "aaa,\"b\"\"bb\",ccc\r\n"),
-        (CSV, &["a,b", " c "], "\"a,b\", c \r\n"),
-        (CSV, &["\"", "\"\""], "\"\"\"\",\"\"\"\"\"\"\r\n"),
-        (CSV, &["", ""], ",\r\n"),
-        (CSV, &[""], "\"\"\r\n"),
-        (TABS, &["1", "[2,3]", ""], "1\t[2,3]\t\n"),
-        (TABS, &[""], "\n"),
-        (TABS, &["\"a\\nb\""], "\"a\\nb\"\n"),
-        (
-            RAW_TABS,
-            &["a\tb", "\\", "c\r\nd"],
-            "a\\tb\t\\\\\tc\\r\\nd\n",
-        ),
-        (RAW_TABS, &["été", "\"x\", y"], "été\t\"x\", y\n"),
-    ];
-    for (style, cells, wanted) in table {
+    for &(style, cells, wanted) in ROWS {
         let mut row = String::new(rt.alloc());
         push_row(style, cells, &mut row)?;
         assert!(rt; row.as_str() == wanted, "{row}");

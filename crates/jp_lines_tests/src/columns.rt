@@ -61,25 +61,26 @@ fn a_cell_for_each_query(rt: HostRuntime) -> Result<(), AllocError> {
     Ok(())
 }
 
+const FLAGS_AND_NAMES: &[(&[&str], &str, &str)] = &[
+    // flags between the queries; an empty cell alone
+    (&["$.a", "--csv"], "{}", "\"\"\r\n"),
+    (&["$.a"], "{}", "\n"),
+    (
+        &["$.a", "--raw", "$['b,c']", "--csv", "--names"],
+        "{\"b,c\":2}",
+        "$.a,\"$['b,c']\"\r\n,2\r\n",
+    ),
+    // blank space in a query, and a backslash
+    (
+        &["--names", "$ \t.a", "$['\\n']"],
+        "",
+        "$ \\t.a\t$['\\\\n']\n",
+    ),
+];
+
 #[test]
 fn flags_and_names(rt: HostRuntime) -> Result<(), AllocError> {
-    let runs: [(&[&str], &str, &str); 4] = [
-        // flags between the queries; an empty cell alone
-        (&["$.a", "--csv"], "{}", "\"\"\r\n"),
-        (&["$.a"], "{}", "\n"),
-        (
-            &["$.a", "--raw", "$['b,c']", "--csv", "--names"],
-            "{\"b,c\":2}",
-            "$.a,\"$['b,c']\"\r\n,2\r\n",
-        ),
-        // blank space in a query, and a backslash
-        (
-            &["--names", "$ \t.a", "$['\\n']"],
-            "",
-            "$ \\t.a\t$['\\\\n']\n",
-        ),
-    ];
-    for (flags, lines, written) in runs {
+    for &(flags, lines, written) in FLAGS_AND_NAMES {
         let mut line = Vec::new(rt.alloc());
         line.extend_from_slice(&["jp-lines", "columns"])?;
         line.extend_from_slice(flags)?;
@@ -101,17 +102,18 @@ const MEMBERS: &str =
     "{\"x\":1,\"b\":[2,{\"c\":3}],\"y\":0,\"a\":4}\n{\"a\":1,\"x\":0,\"a\":2}\n{\"x\":{\"a\":2}}\n\
     [{\"a\":2}]\n\"a\"\n{\"x\":1.5,\"a\":2}\n";
 
+const MEMBERS_THAT_ARE_NOT_ASKED_FOR: &[(&[&str], &str)] = &[
+    (&["$.a", "$.b[*]"], "4\t[2,{\"c\":3}]\n2\t\n\t\n\t\n\t\n"),
+    (&["$.b..c", "$['a','z']"], "3\t4\n\t2\n\t\n\t\n\t\n"),
+    (&["$.z", "$.w"], "\t\n\t\n\t\n\t\n\t\n"),
+    // the second of these asks for the whole document
+    (&["$.a", "$[?@.a==$.x.a].a"], "4\t\n2\t\n\t2\n\t\n\t\n"),
+];
+
 #[test]
 fn members_that_are_not_asked_for(rt: HostRuntime) -> Result<(), AllocError> {
     let told = "line 6: document refused: NotWhole at $['x']\n";
-    let rows: [(&[&str], &str); 4] = [
-        (&["$.a", "$.b[*]"], "4\t[2,{\"c\":3}]\n2\t\n\t\n\t\n\t\n"),
-        (&["$.b..c", "$['a','z']"], "3\t4\n\t2\n\t\n\t\n\t\n"),
-        (&["$.z", "$.w"], "\t\n\t\n\t\n\t\n\t\n"),
-        // the second of these asks for the whole document
-        (&["$.a", "$[?@.a==$.x.a].a"], "4\t\n2\t\n\t2\n\t\n\t\n"),
-    ];
-    for (queries, written) in rows {
+    for &(queries, written) in MEMBERS_THAT_ARE_NOT_ASKED_FOR {
         let mut line = Vec::new(rt.alloc());
         line.extend_from_slice(&["jp-lines", "columns", "--keep-going"])?;
         line.extend_from_slice(queries)?;

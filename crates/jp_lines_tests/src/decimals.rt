@@ -21,7 +21,7 @@ const DURATIONS: &str =
     {\"duration\":2E-1}\n\n{\"duration\":9007199254740993.5}\n{\"duration\":\"0.2\"}\n";
 
 /// A line of words behind `jp-lines`, the lines of the input, and what is written.
-const ROWS: [(&[&str], &str, &str); 14] = [
+const ROWS: &[(&[&str], &str, &str)] = &[
     (
         &["jp-lines", "eval", "--decimals", "$[?@<10]"],
         STORE,
@@ -146,7 +146,7 @@ const ROWS: [(&[&str], &str, &str); 14] = [
 
 #[test]
 fn decimals_are_read_compared_and_written_exactly(rt: HostRuntime) -> Result<(), AllocError> {
-    for (line, lines, written) in ROWS {
+    for &(line, lines, written) in ROWS {
         assert_ends(&rt, rt.alloc(), line, lines, false, (0, written, "", 1))?;
     }
     Ok(())
@@ -168,7 +168,7 @@ const WITHOUT: &str = "line 2: document refused: NotWhole at $['a']\n\
     line 6: document refused: NotJson\n";
 
 /// The words behind `jp-lines`, and what is written and told of these.
-const REFUSED: [(&[&str], &str, &str); 8] = [
+const REFUSED: &[(&[&str], &str, &str)] = &[
     (
         &["jp-lines", "eval", "--keep-going", "--decimals", "$.a"],
         "1\n1.5\n2\n3\n",
@@ -221,7 +221,7 @@ const REFUSED: [(&[&str], &str, &str); 8] = [
 
 #[test]
 fn what_is_no_number_of_the_profile_is_refused(rt: HostRuntime) -> Result<(), AllocError> {
-    for (line, written, told) in REFUSED {
+    for &(line, written, told) in REFUSED {
         assert_ends(&rt, rt.alloc(), line, MIXED, false, (3, written, told, 1))?;
     }
     Ok(())
@@ -237,7 +237,7 @@ type Explained = (
     &'static str,
 );
 
-const EXPLAINED: [Explained; 4] = [
+const EXPLAINED: &[Explained] = &[
     (
         "--extended",
         "{\"title\":\"Sayings of the Century\",\"price\":8.95}",
@@ -290,14 +290,14 @@ fn assert_explained(
 
 #[test]
 fn numbers_are_explained_in_their_profile(rt: HostRuntime) -> Result<(), AllocError> {
-    for row in EXPLAINED {
+    for &row in EXPLAINED {
         assert_explained(&rt, rt.alloc(), row)?;
     }
     Ok(())
 }
 
 /// The words behind `jp-lines`, of which the last one is refused, and how.
-const QUERIES: [(&[&str], Refused); 3] = [
+const QUERIES: &[(&[&str], Refused)] = &[
     (
         &["jp-lines", "keep", "@.price<8.95"],
         ("@.price<8.95", "NotWhole at 8", 8, Reason::NotWhole, ""),
@@ -332,7 +332,7 @@ const QUERIES: [(&[&str], Refused); 3] = [
 
 #[test]
 fn numbers_of_queries_are_those_of_the_profile(rt: HostRuntime) -> Result<(), AllocError> {
-    for (line, row) in QUERIES {
+    for &(line, row) in QUERIES {
         let told = told(rt.alloc(), row.0, row)?;
         assert_ends(&rt, rt.alloc(), line, "", true, (1, "", told.as_str(), 0))?;
     }

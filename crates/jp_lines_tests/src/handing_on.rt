@@ -96,7 +96,7 @@ impl Output for Counted {
 }
 
 /// A program's words, and how many calls of its output a run makes that is done.
-const RUNS: [(&[&str], u64); 6] = [
+const RUNS: &[(&[&str], u64)] = &[
     (&["jp", "eval", "$.*"], 3),
     (&["jp", "paths", "$.x"], 1),
     (&["jp", "canon", "$"], 2),
@@ -124,7 +124,7 @@ fn run(
 
 #[test]
 fn what_is_done_is_handed_on(rt: HostRuntime) -> Result<(), AllocError> {
-    for (line, calls) in RUNS {
+    for &(line, calls) in RUNS {
         let mut output = Counted::new(rt.alloc(), u64::MAX);
         let mut faults = Narrow::new(rt.alloc(), usize::MAX);
         let status = run(rt.alloc(), line, &mut output, &mut faults)?;
@@ -137,7 +137,7 @@ fn what_is_done_is_handed_on(rt: HostRuntime) -> Result<(), AllocError> {
 
 #[test]
 fn no_call_follows_one_that_failed(rt: HostRuntime) -> Result<(), AllocError> {
-    for (line, calls) in RUNS {
+    for &(line, calls) in RUNS {
         for working in 0..calls {
             let mut output = Counted::new(rt.alloc(), working);
             let mut faults = Narrow::new(rt.alloc(), usize::MAX);

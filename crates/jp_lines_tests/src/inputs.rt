@@ -48,32 +48,33 @@ fn assert_ends(
     Ok(())
 }
 
+const GOES_OVER_ITS_INPUTS_IN_ORDER: &[(&[&str], Ended<'_>)] = &[
+    (&["jp-lines", "eval", "$.a"], (0, "4\n", "", 1)),
+    (
+        &["jp-lines", "eval", "--number", "$.a", "two", "one"],
+        (0, "1\t3\n1\t1\n3\t2\n", "", 2),
+    ),
+    (
+        &["jp-lines", "count", "$.a", "one", "-", "two", "one"],
+        (0, "1\n1\n1\n1\n0\n1\n1\n", "", 4),
+    ),
+    (
+        &["jp-lines", "keep", "@.a>1", "one", "two"],
+        (0, "{\"a\":2}\n{\"a\":3}\n", "", 2),
+    ),
+    (
+        &["jp-lines", "columns", "--names", "$.a", "$.b", "two"],
+        (0, "$.a\t$.b\n3\t\n\t0\n", "", 1),
+    ),
+    (
+        &["jp-lines", "eval", "--exit-status", "$.c", "one", "two"],
+        (6, "", "", 2),
+    ),
+];
+
 #[test]
 fn goes_over_its_inputs_in_order(rt: HostRuntime) -> Result<(), AllocError> {
-    let rows: [(&[&str], Ended<'_>); 6] = [
-        (&["jp-lines", "eval", "$.a"], (0, "4\n", "", 1)),
-        (
-            &["jp-lines", "eval", "--number", "$.a", "two", "one"],
-            (0, "1\t3\n1\t1\n3\t2\n", "", 2),
-        ),
-        (
-            &["jp-lines", "count", "$.a", "one", "-", "two", "one"],
-            (0, "1\n1\n1\n1\n0\n1\n1\n", "", 4),
-        ),
-        (
-            &["jp-lines", "keep", "@.a>1", "one", "two"],
-            (0, "{\"a\":2}\n{\"a\":3}\n", "", 2),
-        ),
-        (
-            &["jp-lines", "columns", "--names", "$.a", "$.b", "two"],
-            (0, "$.a\t$.b\n3\t\n\t0\n", "", 1),
-        ),
-        (
-            &["jp-lines", "eval", "--exit-status", "$.c", "one", "two"],
-            (6, "", "", 2),
-        ),
-    ];
-    for (line, ended) in rows {
+    for &(line, ended) in GOES_OVER_ITS_INPUTS_IN_ORDER {
         assert_ends(&rt, rt.alloc(), line, ended)?;
     }
     Ok(())
@@ -367,26 +368,27 @@ fn tells_nothing_where_what_reads_its_output_hung_up(rt: HostRuntime) -> Result<
     assert_fails(&rt, rt.alloc(), &help, 3, false, ("jp-", "write fault\n"))
 }
 
+const TELLS_OF_THE_STANDARD_INPUT_ALONE_WITHOUT_A_NAME: &[(&[&str], Kept<'_>, &str)] = &[
+    (
+        &["jp-lines", "eval", "--keep-going", "$.a"],
+        Kept::Failing(""),
+        "read fault\n",
+    ),
+    (
+        &["jp-lines", "eval", "$.a"],
+        Kept::Unopened(Failed),
+        "open fault\n",
+    ),
+    (
+        &["jp-lines", "eval", "$.a", "-"],
+        Kept::Failing(""),
+        "-: read fault\n",
+    ),
+];
+
 #[test]
 fn tells_of_the_standard_input_alone_without_a_name(rt: HostRuntime) -> Result<(), AllocError> {
-    let rows: [(&[&str], Kept<'_>, &str); 3] = [
-        (
-            &["jp-lines", "eval", "--keep-going", "$.a"],
-            Kept::Failing(""),
-            "read fault\n",
-        ),
-        (
-            &["jp-lines", "eval", "$.a"],
-            Kept::Unopened(Failed),
-            "open fault\n",
-        ),
-        (
-            &["jp-lines", "eval", "$.a", "-"],
-            Kept::Failing(""),
-            "-: read fault\n",
-        ),
-    ];
-    for (line, kept, told) in rows {
+    for &(line, kept, told) in TELLS_OF_THE_STANDARD_INPUT_ALONE_WITHOUT_A_NAME {
         let mut faults = Narrow::new(rt.alloc(), usize::MAX);
         let ended = status_of(
             rt.alloc(),

@@ -79,31 +79,32 @@ pub fn assert_ends(
     Ok(())
 }
 
+const WRITES_WHAT_ITS_WORDS_ASK_FOR: &[(&[&str], &str)] = &[
+    (&["jp-lines", "eval", "$.*"], "1\n[2,3]\n"),
+    (
+        &["jp-lines", "eval", "--keep-going", "$.*"],
+        "1\n[2,3]\n4\n",
+    ),
+    (
+        &["jp-lines", "paths", "$.*", "--keep-going", "--number"],
+        "1\t$['a']\n1\t$['b']\n4\t$[0]\n",
+    ),
+    (
+        &["jp-lines", "both", "--keep-going", "$.*"],
+        "$['a']\t1\n$['b']\t[2,3]\n$[0]\t4\n",
+    ),
+    (&["jp-lines", "count", "--keep-going", "$.*"], "2\n1\n"),
+    (&["jp-lines", "count", "--number", "$.*"], "1\t2\n"),
+    (
+        &["jp-lines", "eval", "--extended", "$[?distinct(@[*])]"],
+        "[2,3]\n",
+    ),
+];
+
 #[test]
 fn writes_what_its_words_ask_for(rt: HostRuntime) -> Result<(), AllocError> {
     let refused = "line 3: document refused: NotJson\n";
-    let runs: [(&[&str], &str); 7] = [
-        (&["jp-lines", "eval", "$.*"], "1\n[2,3]\n"),
-        (
-            &["jp-lines", "eval", "--keep-going", "$.*"],
-            "1\n[2,3]\n4\n",
-        ),
-        (
-            &["jp-lines", "paths", "$.*", "--keep-going", "--number"],
-            "1\t$['a']\n1\t$['b']\n4\t$[0]\n",
-        ),
-        (
-            &["jp-lines", "both", "--keep-going", "$.*"],
-            "$['a']\t1\n$['b']\t[2,3]\n$[0]\t4\n",
-        ),
-        (&["jp-lines", "count", "--keep-going", "$.*"], "2\n1\n"),
-        (&["jp-lines", "count", "--number", "$.*"], "1\t2\n"),
-        (
-            &["jp-lines", "eval", "--extended", "$[?distinct(@[*])]"],
-            "[2,3]\n",
-        ),
-    ];
-    for (line, written) in runs {
+    for &(line, written) in WRITES_WHAT_ITS_WORDS_ASK_FOR {
         assert_ends(
             &rt,
             rt.alloc(),
@@ -240,31 +241,32 @@ fn long_query(alloc: Global) -> Result<String, AllocError> {
     format!(in alloc; "${segments}")
 }
 
+const REFUSES_WORDS_THAT_NAME_NO_RUN: &[&[&str]] = &[
+    &["jp-lines"],
+    &["jp-lines", "check", "$"],
+    &["jp-lines", "eval"],
+    &["jp-lines", "count", "--raw", "$"],
+    &["jp-lines", "eval", "--number", "--number", "$"],
+    &["jp-lines", "keep"],
+    &["jp-lines", "keep", "--first", "@"],
+    &["jp-lines", "eval", "--limit"],
+    &["jp-lines", "eval", "--limit", "$"],
+    &["jp-lines", "eval", "--limit", "0", "$"],
+    &["jp-lines", "eval", "--limit", "1.5", "$"],
+    &["jp-lines", "eval", "--limit=-1", "$"],
+    &["jp-lines", "eval", "--limit", "18446744073709551616", "$"],
+    &["jp-lines", "eval", "--limit", "1", "--limit", "1", "$"],
+    &["jp-lines", "eval", "--reports", "few", "$"],
+    &["jp-lines", "eval", "--max-nodes", "$"],
+    &["jp-lines", "keep", "--max-nodes", "0", "@"],
+    &["jp-lines", "count", "--max-nodes=18446744073709551616", "$"],
+    &["jp-lines", "columns", "--max-bytes", "1k", "$"],
+    &["jp-lines", "paths", "--max-bytes=1", "--max-bytes=1", "$"],
+];
+
 #[test]
 fn refuses_words_that_name_no_run(rt: HostRuntime) -> Result<(), AllocError> {
-    let lines: [&[&str]; 20] = [
-        &["jp-lines"],
-        &["jp-lines", "check", "$"],
-        &["jp-lines", "eval"],
-        &["jp-lines", "count", "--raw", "$"],
-        &["jp-lines", "eval", "--number", "--number", "$"],
-        &["jp-lines", "keep"],
-        &["jp-lines", "keep", "--first", "@"],
-        &["jp-lines", "eval", "--limit"],
-        &["jp-lines", "eval", "--limit", "$"],
-        &["jp-lines", "eval", "--limit", "0", "$"],
-        &["jp-lines", "eval", "--limit", "1.5", "$"],
-        &["jp-lines", "eval", "--limit=-1", "$"],
-        &["jp-lines", "eval", "--limit", "18446744073709551616", "$"],
-        &["jp-lines", "eval", "--limit", "1", "--limit", "1", "$"],
-        &["jp-lines", "eval", "--reports", "few", "$"],
-        &["jp-lines", "eval", "--max-nodes", "$"],
-        &["jp-lines", "keep", "--max-nodes", "0", "@"],
-        &["jp-lines", "count", "--max-nodes=18446744073709551616", "$"],
-        &["jp-lines", "columns", "--max-bytes", "1k", "$"],
-        &["jp-lines", "paths", "--max-bytes=1", "--max-bytes=1", "$"],
-    ];
-    for line in lines {
+    for &line in REFUSES_WORDS_THAT_NAME_NO_RUN {
         let mut input = Trickle {
             bytes: b"[1]",
             size: 3,
@@ -546,25 +548,26 @@ fn tells_by_its_status_that_nothing_is_selected(rt: HostRuntime) -> Result<(), A
     assert_ends(&rt, rt.alloc(), &plain, "{}\n", false, (0, "", "", 1))
 }
 
+const WRITES_THE_FIRST_NODE_OF_EACH_DOCUMENT_ALONE: &[(&[&str], &str)] = &[
+    (&["eval", "$.*"], "1\n{\"a\":4}\n"),
+    (&["eval", "$..a"], "1\n4\n"),
+    (&["paths", "$..a"], "$['a']\n$[0]['a']\n"),
+    (
+        &["both", "--number", "$..a"],
+        "1\t$['a']\t1\n5\t$[0]['a']\t4\n",
+    ),
+    (&["count", "$..a"], "1\n0\n1\n"),
+    (&["count", "--number", "$..*"], "1\t1\n4\t0\n5\t1\n"),
+    (&["eval", "$[0].a"], "4\n"),
+    (&["count", "$[0]"], "0\n0\n1\n"),
+    (&["count", "--line-buffered", "$"], "1\n1\n1\n"),
+];
+
 #[test]
 fn writes_the_first_node_of_each_document_alone(rt: HostRuntime) -> Result<(), AllocError> {
     let lines = "{\"a\":1,\"b\":[2,{\"a\":3}]}\n\nx\n[]\n[{\"a\":4}]\r\n";
     let told = "line 3: document refused: NotJson\n";
-    let runs: [(&[&str], &str); 9] = [
-        (&["eval", "$.*"], "1\n{\"a\":4}\n"),
-        (&["eval", "$..a"], "1\n4\n"),
-        (&["paths", "$..a"], "$['a']\n$[0]['a']\n"),
-        (
-            &["both", "--number", "$..a"],
-            "1\t$['a']\t1\n5\t$[0]['a']\t4\n",
-        ),
-        (&["count", "$..a"], "1\n0\n1\n"),
-        (&["count", "--number", "$..*"], "1\t1\n4\t0\n5\t1\n"),
-        (&["eval", "$[0].a"], "4\n"),
-        (&["count", "$[0]"], "0\n0\n1\n"),
-        (&["count", "--line-buffered", "$"], "1\n1\n1\n"),
-    ];
-    for (words, written) in runs {
+    for &(words, written) in WRITES_THE_FIRST_NODE_OF_EACH_DOCUMENT_ALONE {
         let mut line = Vec::new(rt.alloc());
         line.extend_from_slice(&["jp-lines"])?;
         line.extend_from_slice(words)?;

@@ -53,39 +53,40 @@ fn assert_asks(
     Ok(())
 }
 
+const NAMES_OF_INPUTS_STAND_BEHIND_WHAT_IS_ASKED: &[(&[&str], &[&str], &[&str])] = &[
+    (&["jp-lines", "eval", "$.a"], &["$.a"], &[]),
+    (
+        &["jp-lines", "eval", "$.a", "x", "--number", "-", "x"],
+        &["$.a"],
+        &["x", "-", "x"],
+    ),
+    (
+        &["jp-lines", "count", "--limit", "9", "$", "--", "--raw"],
+        &["$"],
+        &["--raw"],
+    ),
+    (
+        &["jp-lines", "paths", "$", "$y", "b.jsonl"],
+        &["$"],
+        &["$y", "b.jsonl"],
+    ),
+    (&["jp-lines", "keep", "@.a", "x"], &["@.a"], &["x"]),
+    (
+        &["jp-lines", "columns", "$.a", "$.b", "x", "$y"],
+        &["$.a", "$.b"],
+        &["x", "$y"],
+    ),
+    (
+        &["jp-lines", "columns", "a", "$.b", "--csv", "./$y", ""],
+        &["a", "$.b"],
+        &["./$y", ""],
+    ),
+    (&["jp-lines", "columns", "-", "-"], &["-"], &["-"]),
+];
+
 #[test]
 fn names_of_inputs_stand_behind_what_is_asked(rt: HostRuntime) -> Result<(), AllocError> {
-    let rows: [(&[&str], &[&str], &[&str]); 8] = [
-        (&["jp-lines", "eval", "$.a"], &["$.a"], &[]),
-        (
-            &["jp-lines", "eval", "$.a", "x", "--number", "-", "x"],
-            &["$.a"],
-            &["x", "-", "x"],
-        ),
-        (
-            &["jp-lines", "count", "--limit", "9", "$", "--", "--raw"],
-            &["$"],
-            &["--raw"],
-        ),
-        (
-            &["jp-lines", "paths", "$", "$y", "b.jsonl"],
-            &["$"],
-            &["$y", "b.jsonl"],
-        ),
-        (&["jp-lines", "keep", "@.a", "x"], &["@.a"], &["x"]),
-        (
-            &["jp-lines", "columns", "$.a", "$.b", "x", "$y"],
-            &["$.a", "$.b"],
-            &["x", "$y"],
-        ),
-        (
-            &["jp-lines", "columns", "a", "$.b", "--csv", "./$y", ""],
-            &["a", "$.b"],
-            &["./$y", ""],
-        ),
-        (&["jp-lines", "columns", "-", "-"], &["-"], &["-"]),
-    ];
-    for row in rows {
+    for &row in NAMES_OF_INPUTS_STAND_BEHIND_WHAT_IS_ASKED {
         assert_asks(&rt, rt.alloc(), row)?;
     }
     Ok(())
@@ -195,35 +196,36 @@ fn assert_refused(
     Ok(())
 }
 
+const WORDS_OF_ANOTHER_COMMAND_ARE_REFUSED: &[(&[&str], ErrorKind)] = &[
+    (
+        &["jp-lines", "paths", "--raw", "$"],
+        ErrorKind::UnknownArgument,
+    ),
+    (
+        &["jp-lines", "count", "$", "--raw"],
+        ErrorKind::UnknownArgument,
+    ),
+    (
+        &["jp-lines", "keep", "--first", "@.a"],
+        ErrorKind::UnknownArgument,
+    ),
+    (
+        &["jp-lines", "eval", "--reports", "-1", "$"],
+        ErrorKind::UnknownArgument,
+    ),
+    (
+        &["jp-lines", "eval", "--reports=18446744073709551616", "$"],
+        ErrorKind::ValueValidation,
+    ),
+    (
+        &["jp-lines", "columns", "--names"],
+        ErrorKind::MissingRequiredArgument,
+    ),
+];
+
 #[test]
 fn words_of_another_command_are_refused(rt: HostRuntime) -> Result<(), AllocError> {
-    let rows: [(&[&str], ErrorKind); 6] = [
-        (
-            &["jp-lines", "paths", "--raw", "$"],
-            ErrorKind::UnknownArgument,
-        ),
-        (
-            &["jp-lines", "count", "$", "--raw"],
-            ErrorKind::UnknownArgument,
-        ),
-        (
-            &["jp-lines", "keep", "--first", "@.a"],
-            ErrorKind::UnknownArgument,
-        ),
-        (
-            &["jp-lines", "eval", "--reports", "-1", "$"],
-            ErrorKind::UnknownArgument,
-        ),
-        (
-            &["jp-lines", "eval", "--reports=18446744073709551616", "$"],
-            ErrorKind::ValueValidation,
-        ),
-        (
-            &["jp-lines", "columns", "--names"],
-            ErrorKind::MissingRequiredArgument,
-        ),
-    ];
-    for row in rows {
+    for &row in WORDS_OF_ANOTHER_COMMAND_ARE_REFUSED {
         assert_refused(&rt, rt.alloc(), row)?;
     }
     Ok(())
