@@ -1,10 +1,10 @@
 /* A query over a document, as the program jp does it:
  *
- *     example FORM QUERY [--extended] < document
+ *     example FORM [--extended] [--decimals] QUERY < document
  *
  * FORM is eval, paths, both, canon or check. What is written, on both outputs, and the status are the
- * ones of `jp FORM QUERY`, but for its limits of lengths, its help, and the path that a number that
- * is not whole has.
+ * ones of `jp FORM [--extended] [--decimals] QUERY`, but for its limits of lengths, its help, and the path of a
+ * number that is refused.
  */
 #include "jp.h"
 
@@ -84,12 +84,30 @@ static uint32_t make(const struct call *call, uint8_t *out, size_t room, struct 
                    &unlimited, out, room, report);
 }
 
+/* The words of the command line: a form, a query, and flags beside it. Gives whether they are that. */
+static int read_words(int count, char **words, struct call *call) {
+    int extended = 0, decimals = 0, others = 0;
+    for (int at = 2; at < count; at += 1) {
+        if (strcmp(words[at], "--extended") == 0) {
+            extended = 1;
+        } else if (strcmp(words[at], "--decimals") == 0) {
+            decimals = 1;
+        } else {
+            call->query = words[at];
+            others += 1;
+        }
+    }
+    call->form = count < 2 ? "" : words[1];
+    call->profile = decimals ? (extended ? JP_EXTENDED_DECIMAL : JP_DECIMAL) : (extended ? JP_EXTENDED : JP_STANDARD);
+    return others == 1;
+}
+
 int main(int count, char **words) {
-    if (count < 3 || count > 4 || (count == 4 && strcmp(words[3], "--extended") != 0)) {
-        fputs("usage: example FORM QUERY [--extended] < document\n", stderr);
+    struct call call = {"", "", JP_STANDARD, {NULL, 0}};
+    if (!read_words(count, words, &call)) {
+        fputs("usage: example FORM [--extended] [--decimals] QUERY < document\n", stderr);
         return 2;
     }
-    struct call call = {words[1], words[2], count == 4 ? JP_EXTENDED : JP_STANDARD, {NULL, 0}};
     uint8_t small[256];
     struct jp_report report;
     call.document.at = small;

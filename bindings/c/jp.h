@@ -24,7 +24,10 @@
  * Calls share nothing: they may be made at once from any threads. What was allocated for a call is
  * freed when it returns, but for what a handle keeps.
  *
- * A query has to be UTF-8, as has a document. Numbers in documents are whole, of 64 bits.
+ * A query has to be UTF-8, as has a document. Of numbers none is rounded. In the profiles JP_STANDARD and JP_EXTENDED
+ * those of a query and of its documents are whole, of 64 bits; in JP_DECIMAL and JP_EXTENDED_DECIMAL they are exact
+ * decimals of at most 38 digits, as 8.95 or 1e400. A document that a handle keeps has whole numbers alone, and there a
+ * query selects the same nodes in each profile that accepts it.
  *
  * A query and a document may have any length for which there is memory: the limits of the program
  * jp, 1 MiB and 16 MiB, are not those of a call. A document of 2^32 bytes or more is refused as
@@ -73,10 +76,12 @@ enum {
     JP_BOTH = 2    /* the normalized path, a tab, and the compact text of the value */
 };
 
-/* Which functions a query may call. */
+/* Which functions a query may call, and which numbers it and its documents have. */
 enum {
-    JP_STANDARD = 0, /* those of RFC 9535 */
-    JP_EXTENDED = 1  /* also `distinct` */
+    JP_STANDARD = 0,        /* the functions of RFC 9535, and whole numbers of 64 bits */
+    JP_EXTENDED = 1,        /* also `distinct`, and whole numbers */
+    JP_DECIMAL = 2,         /* the functions of RFC 9535, and exact decimals of at most 38 digits */
+    JP_EXTENDED_DECIMAL = 3 /* also `distinct`, and exact decimals */
 };
 
 /* The parts of why a query is refused. */
@@ -98,7 +103,7 @@ enum {
     JP_SYNTAX = 1,           /* no query begins with the text up to the place and the character there */
     JP_TOO_DEEP = 2,         /* more than 128 levels inside one another */
     JP_NOT_WHOLE = 3,        /* a literal with a fraction or an exponent */
-    JP_NUMBER_RANGE = 4,     /* a literal outside -(2^63) to (2^64)-1 */
+    JP_NUMBER_RANGE = 4,     /* a literal outside -(2^63) to (2^64)-1, or of decimals one that is too much for one */
     JP_INDEX_RANGE = 5,      /* an index or a part of a slice outside -(2^53)+1 to (2^53)-1 */
     JP_UNKNOWN_FUNCTION = 6, /* no function of the profile has that name */
     JP_ARGUMENT_COUNT = 7,   /* a call with too many arguments or too few */
@@ -150,9 +155,10 @@ struct jp_limit {
 uint32_t jp_version(void);
 
 /* A line for each node that the query selects in the document, in the nodelist's order; no text
- * where it selects none. The query is read first. Where it names one location, as $.a[0] does, it is
- * answered while the document is read, makes no steps, and keeps to the limit of bytes. A document that is
- * refused is read once more, for its place; where there is no memory for that the status is JP_NO_MEMORY. */
+ * where it selects none. The query is read first, and then the document, with the numbers of the profile. Where the
+ * query names one location, as $.a[0] does, it is answered while the document is read, makes no steps, and keeps to
+ * the limit of bytes. A document that is refused is read once more, for its place; where there is no memory for that
+ * the status is JP_NO_MEMORY. */
 uint32_t jp_eval(const uint8_t *query, size_t query_length,
                  const uint8_t *document, size_t document_length,
                  uint32_t form, uint32_t profile, const struct jp_limit *limit,
@@ -197,9 +203,9 @@ uint32_t jp_explain(const uint8_t *query, size_t query_length, uint32_t profile,
 
 /* Why bytes are no document, and where: the place of the first wrong byte, and as text the part that is
  * asked for. The status is JP_DONE, also where there is no text and no place, since they are a document.
- * It is JP_DOCUMENT_REFUSED of 2^32 bytes or more, which are not read. The names of reasons stay, and new
- * ones may come; what sentences say may change. Of JSON Lines, where each line is a document, the reason is
- * AfterValue: ask a query of each line, by jp_ask. */
+ * It is JP_DOCUMENT_REFUSED of 2^32 bytes or more, which are not read. Numbers are to be whole. The names of
+ * reasons stay, and new ones may come; what sentences say may change. Of JSON Lines, where each line is a document,
+ * the reason is AfterValue: ask a query of each line, by jp_ask. */
 uint32_t jp_explain_document(const uint8_t *document, size_t document_length, uint32_t part,
                              struct jp_place *place,
                              uint8_t *out, size_t out_length, struct jp_report *report);
@@ -227,14 +233,14 @@ struct jp_handle {
 #define JP_EMPTY {0, 0, {0, 0, 0}}
 /* clang-format on */
 
-/* Keeps the query in place of what the handle kept. The report and the status are those of jp_check;
- * where they are not JP_DONE the handle keeps nothing, but after JP_NO_STACK what it kept. */
+/* Keeps the query, with its profile, in place of what the handle kept. The report and the status are those of
+ * jp_check; where they are not JP_DONE the handle keeps nothing, but after JP_NO_STACK what it kept. */
 uint32_t jp_query_new(const uint8_t *query, size_t query_length, uint32_t profile,
                       struct jp_handle *handle, struct jp_report *report);
 
-/* Keeps the document in place of what the handle kept. Nothing points to its bytes afterwards. Where it
- * is refused the handle keeps nothing, and the buffer is for the path of a number that is not whole.
- * After JP_NO_STACK the handle keeps what it kept. */
+/* Keeps the document, whose numbers are whole, in place of what the handle kept. Nothing points to its bytes
+ * afterwards. Where it is refused the handle keeps nothing, and the buffer is for the path of a number that is not
+ * whole. After JP_NO_STACK the handle keeps what it kept. */
 uint32_t jp_document_new(const uint8_t *document, size_t document_length,
                          struct jp_handle *handle,
                          uint8_t *out, size_t out_length, struct jp_report *report);
@@ -249,11 +255,11 @@ struct jp_text {
 /* All nodes, where a call is told how many are asked for. */
 #define JP_ALL 0
 
-/* Asks the query that the handle keeps of a document. The text, which the handle lends, is what jp_eval
- * writes: of the nodes behind the first `from` ones all, or as many as `count` says, with which the evaluation
- * stops. So 0 and 1 ask for the first node, and whether there is one: without one there is no text. Where a
- * document is refused for a number that is not whole, its path is lent. The handle keeps the memory that a
- * call takes, so that the next takes none where it needs no more. */
+/* Asks the query that the handle keeps of a document. The text, which the handle lends, is what jp_eval writes in
+ * the query's profile: of the nodes behind the first `from` ones all, or as many as `count` says, with which the
+ * evaluation stops. So 0 and 1 ask for the first node, and whether there is one: without one there is no text. Where
+ * a document is refused for a number, its path is lent. The handle keeps the memory that a call takes, so that the
+ * next takes none where it needs no more. */
 uint32_t jp_ask(struct jp_handle *query, const uint8_t *document, size_t document_length,
                 uint32_t form, uint64_t from, uint64_t count, const struct jp_limit *limit,
                 struct jp_text *text, struct jp_report *report);
@@ -274,8 +280,8 @@ struct jp_node {
 /* This call and those below take a limit of steps alone, or JP_NO_LIMIT.
  *
  * Asks the query that the handle keeps for its first node in a document, with which the evaluation stops.
- * `report->length` is that of both texts together. Where a document is refused for a number that is not
- * whole, its path is lent. */
+ * `report->length` is that of both texts together. Where a document is refused for a number, its path is
+ * lent. */
 uint32_t jp_first(struct jp_handle *query, const uint8_t *document, size_t document_length, uint64_t limit,
                   struct jp_node *node, struct jp_report *report);
 

@@ -234,7 +234,7 @@ static void try_explanations(void) {
         {"$[?@.a = 1]", JP_STANDARD, JP_SUGGESTION, JP_DONE, "$[?@.a == 1]"},
         {"$[?distinct(@.*)]", JP_EXTENDED, JP_EXPLANATION, JP_DONE, ""},
         {"$[\xff", JP_STANDARD, JP_EXPLANATION, JP_DONE, ""},
-        {"$[", 2, JP_EXPLANATION, JP_USAGE, ""},
+        {"$[", 4, JP_EXPLANATION, JP_USAGE, ""},
         {"$[", JP_STANDARD, 3, JP_USAGE, ""},
     };
     for (size_t at = 0; at < sizeof told / sizeof told[0]; at += 1) {
@@ -348,7 +348,7 @@ static void try_queries(void) {
     expect(jp_check((const uint8_t *)query, sizeof query - 1, JP_STANDARD, &report) == JP_QUERY_REFUSED
                && report.kind == JP_UNKNOWN_FUNCTION && report.place == 8,
            "refused", 0);
-    expect(jp_check((const uint8_t *)query, sizeof query - 1, 2, &report) == JP_USAGE, "no profile", 0);
+    expect(jp_check((const uint8_t *)query, sizeof query - 1, 4, &report) == JP_USAGE, "no profile", 0);
 }
 
 static uint32_t keep_query(const char *query, struct jp_handle *handle) {

@@ -16,7 +16,7 @@ const (
 	// QueryNotWhole: a literal with a fraction or an exponent.
 	QueryNotWhole QueryKind = "NotWhole"
 
-	// QueryNumberRange: a literal outside -(2^63) to (2^64)-1.
+	// QueryNumberRange: a literal outside -(2^63) to (2^64)-1, or of decimals one that is too much for one.
 	QueryNumberRange QueryKind = "NumberRange"
 
 	// QueryIndexRange: an index or a part of a slice outside -(2^53)+1 to (2^53)-1.

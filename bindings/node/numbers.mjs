@@ -16,6 +16,8 @@ export const BOTH = 2;
 
 export const STANDARD = 0;
 export const EXTENDED = 1;
+export const DECIMAL = 2;
+export const EXTENDED_DECIMAL = 3;
 
 export const EXPLANATION = 0;
 export const SENTENCE = 1;

@@ -30,6 +30,8 @@ pub(crate) mod form {
 pub(crate) mod profile {
     pub(crate) const STANDARD: u32 = 0;
     pub(crate) const EXTENDED: u32 = 1;
+    pub(crate) const DECIMAL: u32 = 2;
+    pub(crate) const EXTENDED_DECIMAL: u32 = 3;
 }
 
 pub(crate) mod part {
@@ -54,7 +56,7 @@ pub enum QueryKind {
     TooDeep,
     /// A literal with a fraction or an exponent.
     NotWhole,
-    /// A literal outside -(2^63) to (2^64)-1.
+    /// A literal outside -(2^63) to (2^64)-1, or of decimals one that is too much for one.
     NumberRange,
     /// An index or a part of a slice outside -(2^53)+1 to (2^53)-1.
     IndexRange,

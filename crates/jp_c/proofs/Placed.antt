@@ -2,6 +2,7 @@
 use Rattle.std.proofs.Common.{◌≡◌, ℕ, List, Result, Ok, Err, IfOk, IfErr, MatchResult, Some}
 use Rattle.std.proofs.Common.{String, arith, inl, inr, string_bytes, subst, sym}
 use Rattle.std.specs.declared.alloc.Global.{Global}
+use Rattle.jp_check.specs.Numbers.{numbers}
 use Rattle.jp_check.specs.declared.profile.Profile.{Profile}
 use Rattle.jp_command.specs.declared.form.Form.{Form}
 use Rattle.jp_document.specs.declared.fault.DocumentFault.{DocumentFault}
@@ -29,7 +30,7 @@ module _ (limit : Limit) (f p : ℕ) (query document : List ℕ) (form : Form) (
 
   document-told : (fault : DocumentFault) (o : outcome.Outcome)
       → IsNoAnswer allowed profile form query document (Document fault) → steps ≡ 0
-      → IsTold document (Document fault) o → IsAllowed o
+      → IsTold (numbers profile) document (Document fault) o → IsAllowed o
   document-told fault o none made (inl told) =
       subst IsAllowed (sym told.2) ((form, profile, form_is, is, none, told.1), made)
   document-told fault o none made (inr told) =
@@ -37,7 +38,7 @@ module _ (limit : Limit) (f p : ℕ) (query document : List ℕ) (form : Form) (
 
   fault-told : (fault : FindFault) (o : outcome.Outcome)
       → IsNoAnswer allowed profile form query document fault → MakesSteps limit.steps (Fault fault) steps
-      → IsTold document fault o → IsAllowed o
+      → IsTold (numbers profile) document fault o → IsAllowed o
   fault-told (Query r) o none made told =
       subst IsAllowed (sym told) ((form, profile, form_is, is, none, tt), made)
   fault-told (Document fault) o none made told = document-told fault o none made told
@@ -58,9 +59,9 @@ module _ (limit : Limit) (f p : ℕ) (query document : List ℕ) (form : Form) (
       → IfErr r (IsNoAnswer allowed profile form query document)
       → MatchResult r (λ text. before ≡ Text text) (λ fault. before ≡ Fault fault)
       → MakesSteps limit.steps before made → steps ≡ made
-      → IsPlaced document before o → IsAllowed o
+      → IsPlaced (numbers profile) document before o → IsAllowed o
   answer-told (Ok text) before o made answer none same makes count placed =
-      subst IsAllowed (sym (subst (λ b. IsPlaced document b o) same placed)) (
+      subst IsAllowed (sym (subst (λ b. IsPlaced (numbers profile) document b o) same placed)) (
         (form, profile, form_is, is, answer),
         subst (λ s. MakesSteps limit.steps (Text text) s) (sym count)
             (subst (λ b. MakesSteps limit.steps b made) same makes),
@@ -69,4 +70,4 @@ module _ (limit : Limit) (f p : ℕ) (query document : List ℕ) (form : Form) (
       fault-told fault o none
       (subst (λ s. MakesSteps limit.steps (Fault fault) s) (sym count)
       (subst (λ b. MakesSteps limit.steps b made) same makes))
-      (subst (λ b. IsPlaced document b o) same placed)
+      (subst (λ b. IsPlaced (numbers profile) document b o) same placed)

@@ -10,7 +10,7 @@ use Rattle.std.proofs.lemmas.List.{get_or_append_left, get_or_push, length-appen
 use Rattle.std.proofs.lemmas.Option.{get_or_from_slice_get, same_Some, slice_get-get_or}
 use Rattle.std.proofs.lemmas.Option.{slice_get_read, slice_get_within}
 use Rattle.jp_check.specs.Checked.{Profiled}
-use Rattle.jp_decimal.specs.declared.numbers.Numbers.TheVariants.{Whole}
+use Rattle.jp_decimal.specs.declared.numbers.Numbers.{Numbers}
 use Rattle.jp_evaluate.specs.Plan.{HoldsPortion, IsReadToAnswer, Serves}
 use Rattle.jp_flat.specs.declared.flat.Flat.{Flat}
 use Rattle.jp_held.specs.declared.portion.Excerpt.TheVariants.{Document}
@@ -98,20 +98,20 @@ read-at profile portion bytes olds news rs k i d None same at read rest within =
 -- ---- the document
 
 -- so much of a document as serves a query answers it
-portion-answers : (q : QueryTree) (portion : Portion) (bytes : List ℕ) (flat : Flat)
-    → Serves q portion → HoldsPortion Whole portion bytes flat → IsReadToAnswer Whole q bytes (Document flat)
-portion-answers q portion bytes flat serves holds = record {
+portion-answers : (n : Numbers) (q : QueryTree) (portion : Portion) (bytes : List ℕ) (flat : Flat)
+    → Serves q portion → HoldsPortion n portion bytes flat → IsReadToAnswer n q bytes (Document flat)
+portion-answers n q portion bytes flat serves holds = record {
   document = holds.document;
   is = holds.is;
   same = holds.nodes q serves;
 }
 
-pub read-answers : (asked : Result Profiled Refusal) (portion : Portion) (bytes : List ℕ)
+pub read-answers : (n : Numbers) (asked : Result Profiled Refusal) (portion : Portion) (bytes : List ℕ)
     (read : Result Flat FindFault) → IfOk asked (λ c. Serves (query_of c.query) portion)
-    → IfOk read (λ flat. HoldsPortion Whole portion bytes flat × Fits bytes)
+    → IfOk read (λ flat. HoldsPortion n portion bytes flat × Fits bytes)
     → IfOk asked (λ c. IfOk read
-    (λ flat. IsReadToAnswer Whole (query_of c.query) bytes (Document flat) × Fits bytes))
-read-answers (Ok c) portion bytes (Ok flat) serves holds =
-    (portion-answers (query_of c.query) portion bytes flat serves holds.0, holds.1)
-read-answers (Ok c) portion bytes (Err f) serves holds = tt
-read-answers (Err r) portion bytes read serves holds = tt
+    (λ flat. IsReadToAnswer n (query_of c.query) bytes (Document flat) × Fits bytes))
+read-answers n (Ok c) portion bytes (Ok flat) serves holds =
+    (portion-answers n (query_of c.query) portion bytes flat serves holds.0, holds.1)
+read-answers n (Ok c) portion bytes (Err f) serves holds = tt
+read-answers n (Err r) portion bytes read serves holds = tt

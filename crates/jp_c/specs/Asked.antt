@@ -4,13 +4,16 @@ use Rattle.std.specs.Str.{chars, IsUtf8}
 use Rattle.std.specs.Str.Lossy.{utf8_valid_len}
 use Rattle.jp_canon.specs.Canon.{canon_of}
 use Rattle.jp_check.specs.Accepted.{IsAcceptedAs}
+use Rattle.jp_check.specs.Numbers.{numbers}
 use Rattle.jp_check.specs.declared.profile.Profile.{Profile}
 use Rattle.jp_command.specs.Lines.{output_of}
 use Rattle.jp_command.specs.declared.form.Form.{Form}
-use Rattle.jp_document.specs.Document.{IsDocument, IsDocumentFault}
+use Rattle.jp_decimal.specs.declared.numbers.Numbers.{Numbers}
+use Rattle.jp_document.specs.Exact.{IsDocumentIn}
 use Rattle.jp_document.specs.Value.{Value}
 use Rattle.jp_document.specs.declared.fault.DocumentFault.TheVariants as document
 use Rattle.jp_evaluate.specs.Nodelist.{nodelist}
+use Rattle.jp_exact.specs.Defects.{IsDocumentFaultIn}
 use Rattle.jp_limit.specs.OutputLimit.{StaysWithin}
 use Rattle.jp_limit.specs.declared.output_limit.OutputLimit.{OutputLimit}
 use Rattle.jp_query.specs.declared.refusal.Refusal.{Refusal}
@@ -48,46 +51,48 @@ IsQueryFault profile bytes StepsUsedUp = ⊥
 IsQueryFault profile bytes TooManyNodes = ⊥
 IsQueryFault profile bytes TooManyBytes = ⊥
 
--- why no document is read: the bytes are too many, or they are none, with that fault; running out of
--- memory says nothing of them
-abbrev pub IsNoDocument : List ℕ → FindFault → Type 0
-IsNoDocument bytes (Query r) = ⊥
-IsNoDocument bytes (Document f) = IsDocumentFault bytes f × (f ≢ document.NoMemory) × Fits bytes
-IsNoDocument bytes DocumentTooLarge = IsTooLarge bytes
-IsNoDocument bytes NoMemory = Unit {0}
-IsNoDocument bytes StepsUsedUp = ⊥
-IsNoDocument bytes TooManyNodes = ⊥
-IsNoDocument bytes TooManyBytes = ⊥
+-- why no document with such numbers is read: the bytes are too many, or they are none, with that fault;
+-- running out of memory says nothing of them
+abbrev pub IsNoDocument : Numbers → List ℕ → FindFault → Type 0
+IsNoDocument n bytes (Query r) = ⊥
+IsNoDocument n bytes (Document f) =
+    IsDocumentFaultIn n bytes f × (f ≢ document.NoMemory) × Fits bytes
+IsNoDocument n bytes DocumentTooLarge = IsTooLarge bytes
+IsNoDocument n bytes NoMemory = Unit {0}
+IsNoDocument n bytes StepsUsedUp = ⊥
+IsNoDocument n bytes TooManyNodes = ⊥
+IsNoDocument n bytes TooManyBytes = ⊥
 
--- the text is the lines, in that form, of the nodes that the query selects in the document, as many as may
--- come out
+-- the text is the lines, in that form, of the nodes that the query selects in the document, which is read with
+-- the numbers of the query's profile, as many as may come out
 pub record IsAnswer (most : OutputLimit) (profile : Profile) (form : Form) (query bytes text : List ℕ)
     : Type 0 where
   pub q : QueryTree
   pub d : Value
   pub asked : IsAcceptedInBytes profile query q
-  pub document : IsDocument bytes d
+  pub document : IsDocumentIn (numbers profile) bytes d
   pub fits : Fits bytes
   pub lines : text ≡ output_of form q d
   pub within : StaysWithin most (length (nodelist q d)) (length text)
 
--- the query is accepted, the bytes are a document, and for that fault no lines of its nodes are given
+-- the query is accepted, the bytes are a document with the numbers of its profile, and for that fault no lines of
+-- its nodes are given
 pub record GivesNoLines (most : OutputLimit) (profile : Profile) (form : Form) (query bytes : List ℕ)
     (fault : FindFault) : Type 0 where
   pub q : QueryTree
   pub d : Value
   pub asked : IsAcceptedInBytes profile query q
-  pub document : IsDocument bytes d
+  pub document : IsDocumentIn (numbers profile) bytes d
   pub fits : Fits bytes
   pub why : IsGivenUp most (length (nodelist q d)) (length (output_of form q d)) fault
 
 -- why there is no answer: the query is refused; or it is accepted and the bytes are too many, or no
--- document, with that fault; or it is accepted, the bytes are a document, and more steps are needed
--- than are allowed, or more comes out than may; running out of memory says nothing of either
+-- document with the numbers of its profile, with that fault; or it is accepted, the bytes are a document, and
+-- more steps are needed than are allowed, or more comes out than may; running out of memory says nothing of either
 abbrev pub IsNoAnswer : OutputLimit → Profile → Form → List ℕ → List ℕ → FindFault → Type 0
 IsNoAnswer most profile form query bytes (Query r) = RefusesBytes profile query r
 IsNoAnswer most profile form query bytes (Document f) =
-    ((q : QueryTree) × IsAcceptedInBytes profile query q) × IsDocumentFault bytes f
+    ((q : QueryTree) × IsAcceptedInBytes profile query q) × IsDocumentFaultIn (numbers profile) bytes f
     × (f ≢ document.NoMemory) × Fits bytes
 IsNoAnswer most profile form query bytes DocumentTooLarge =
     ((q : QueryTree) × IsAcceptedInBytes profile query q) × IsTooLarge bytes

@@ -3,10 +3,12 @@ use Rattle.std.specs.Prelude.{◌≡◌, ◌⊎◌, ℕ, List, [], Option, None,
 use Rattle.std.specs.String.{string_vec}
 use Rattle.std.specs.Vec.{vec_ptr}
 use Rattle.std.specs.declared.alloc.Global.{Global}
+use Rattle.jp_check.specs.Numbers.{numbers}
+use Rattle.jp_check.specs.declared.profile.Profile.{Profile}
 use Rattle.jp_command.specs.Lines.{lines_of}
 use Rattle.jp_command.specs.Selecting.{nodes_behind}
 use Rattle.jp_command.specs.declared.form.Form.{Form}
-use Rattle.jp_document.specs.Document.{IsDocument}
+use Rattle.jp_document.specs.Exact.{IsDocumentIn}
 use Rattle.jp_document.specs.Node.{Node}
 use Rattle.jp_document.specs.Value.{Value}
 use Rattle.jp_evaluate.specs.Nodelist.{nodelist}
@@ -19,7 +21,7 @@ use Rattle.jsonpath.specs.declared.fault.FindFault.{FindFault}
 use Rattle.jsonpath.specs.declared.fault.FindFault.TheVariants as find
 use Rattle.jp_c.specs.Asked.{IsNoDocument}
 use Rattle.jp_c.specs.Calls.{IsPlaceless}
-use Rattle.jp_c.specs.Handles.{query_kept, document_kept}
+use Rattle.jp_c.specs.Handles.{document_kept, profile_kept, query_kept}
 use Rattle.jp_c.specs.Limit.{most_of}
 use Rattle.jp_c.specs.Misread.{IsMisreadAt}
 use Rattle.jp_c.specs.Numbers.{form_of}
@@ -39,57 +41,59 @@ nodes_asked from count q d = nodes_behind from (most_of count) (nodelist q d)
 abbrev pub answer_of : ℕ → ℕ → Form → QueryTree → Value → List ℕ
 answer_of from count f q d = lines_of f (nodes_asked from count q d)
 
--- a form has that number, and the handle keeps a query
-pub record IsAskedOf (form : ℕ) (query : Option Kept) (f : Form) (q : QueryTree) : Type 0 where
+-- a form has that number, and the handle keeps a query, which is accepted in that profile
+pub record IsAskedOf (form : ℕ) (query : Option Kept) (f : Form) (p : Profile) (q : QueryTree) : Type 0 where
   pub form_is : form_of form ≡ Some f
+  pub profile_is : profile_kept query ≡ Some p
   pub query_is : query_kept query ≡ Some q
 
--- the bytes are a document, and for that fault no lines of the nodes asked for are given
-abbrev pub GivesNoneOf : ℕ → ℕ → Form → QueryTree → List ℕ → OutputLimit → FindFault → Type 0
-GivesNoneOf from count f q bytes most fault =
-    (d : Value) × IsDocument bytes d × Fits bytes
+-- the bytes are a document with the numbers of the profile, and for that fault no lines of the nodes asked for are
+-- given
+abbrev pub GivesNoneOf : ℕ → ℕ → Form → Profile → QueryTree → List ℕ → OutputLimit → FindFault → Type 0
+GivesNoneOf from count f p q bytes most fault =
+    (d : Value) × IsDocumentIn (numbers p) bytes d × Fits bytes
     × IsGivenUp most (length (nodes_asked from count q d)) (length (answer_of from count f q d)) fault
 
--- why there is no answer of these bytes: they are no document; or they are one, and more steps are
--- needed than are allowed, or more comes out than may
-abbrev pub IsNoAnswerOf : ℕ → ℕ → Form → QueryTree → List ℕ → OutputLimit → FindFault → Type 0
-IsNoAnswerOf from count f q bytes most find.StepsUsedUp =
-    GivesNoneOf from count f q bytes most find.StepsUsedUp
-IsNoAnswerOf from count f q bytes most find.TooManyNodes =
-    GivesNoneOf from count f q bytes most find.TooManyNodes
-IsNoAnswerOf from count f q bytes most find.TooManyBytes =
-    GivesNoneOf from count f q bytes most find.TooManyBytes
-IsNoAnswerOf from count f q bytes most fault = IsNoDocument bytes fault
+-- why there is no answer of these bytes: they are no document with the numbers of the profile; or they are one,
+-- and more steps are needed than are allowed, or more comes out than may
+abbrev pub IsNoAnswerOf : ℕ → ℕ → Form → Profile → QueryTree → List ℕ → OutputLimit → FindFault → Type 0
+IsNoAnswerOf from count f p q bytes most find.StepsUsedUp =
+    GivesNoneOf from count f p q bytes most find.StepsUsedUp
+IsNoAnswerOf from count f p q bytes most find.TooManyNodes =
+    GivesNoneOf from count f p q bytes most find.TooManyNodes
+IsNoAnswerOf from count f p q bytes most find.TooManyBytes =
+    GivesNoneOf from count f p q bytes most find.TooManyBytes
+IsNoAnswerOf from count f p q bytes most fault = IsNoDocument (numbers p) bytes fault
 
 -- of `jp_ask`: the lines of the nodes asked for that the query kept by the handle selects in the document that
--- the bytes are; or no form has that number, or the handle keeps no query; or why there is no answer, with the
--- place of a document that is refused
+-- the bytes are with the numbers of its profile; or no form has that number, or the handle keeps no query; or why
+-- there is no answer, with the place of a document that is refused
 abbrev pub IsAskOutcome : ℕ → ℕ → ℕ → Option Kept → List ℕ → OutputLimit → outcome.Outcome → Type 0
 IsAskOutcome form from count query bytes most (Text text) =
-    (f : Form) × (q : QueryTree) × (d : Value) × IsAskedOf form query f q × IsDocument bytes d
-    × Fits bytes × (string_bytes text ≡ answer_of from count f q d)
+    (f : Form) × (p : Profile) × (q : QueryTree) × (d : Value) × IsAskedOf form query f p q
+    × IsDocumentIn (numbers p) bytes d × Fits bytes × (string_bytes text ≡ answer_of from count f q d)
     × StaysWithin most (length (nodes_asked from count q d)) (length (string_bytes text))
 IsAskOutcome form from count query bytes most Usage =
     (form_of form ≡ None) ⊎ (query_kept query ≡ None)
 IsAskOutcome form from count query bytes most (Fault fault) =
-    (f : Form) × (q : QueryTree) × IsAskedOf form query f q
-    × IsNoAnswerOf from count f q bytes most fault × IsPlaceless fault
+    (f : Form) × (p : Profile) × (q : QueryTree) × IsAskedOf form query f p q
+    × IsNoAnswerOf from count f p q bytes most fault × IsPlaceless fault
 IsAskOutcome form from count query bytes most (Misread fault place) =
-    (f : Form) × (q : QueryTree) × IsAskedOf form query f q × IsNoDocument bytes (find.Document fault)
-    × IsMisreadAt bytes place
+    (f : Form) × (p : Profile) × (q : QueryTree) × IsAskedOf form query f p q
+    × IsNoDocument (numbers p) bytes (find.Document fault) × IsMisreadAt (numbers p) bytes place
 
 -- of `jp_ask_document`: the same of the document that another handle keeps
 abbrev pub IsAskDocumentOutcome : ℕ → ℕ → ℕ → Option Kept → Option Kept → OutputLimit
     → outcome.Outcome → Type 0
 IsAskDocumentOutcome form from count query document most (Text text) =
-    (f : Form) × (q : QueryTree) × (d : Value) × IsAskedOf form query f q
+    (f : Form) × (p : Profile) × (q : QueryTree) × (d : Value) × IsAskedOf form query f p q
     × (document_kept document ≡ Some d)
     × (string_bytes text ≡ answer_of from count f q d)
     × StaysWithin most (length (nodes_asked from count q d)) (length (string_bytes text))
 IsAskDocumentOutcome form from count query document most Usage =
     (form_of form ≡ None) ⊎ (query_kept query ≡ None) ⊎ (document_kept document ≡ None)
 IsAskDocumentOutcome form from count query document most (Fault fault) =
-    (f : Form) × (q : QueryTree) × (d : Value) × IsAskedOf form query f q
+    (f : Form) × (p : Profile) × (q : QueryTree) × (d : Value) × IsAskedOf form query f p q
     × (document_kept document ≡ Some d)
     × IsGivenUp most (length (nodes_asked from count q d)) (length (answer_of from count f q d)) fault
 IsAskDocumentOutcome form from count query document most (Misread fault place) = ⊥

@@ -1,5 +1,6 @@
 -- The outcomes that each call may have.
 use Rattle.std.specs.Prelude.{◌≡◌, ◌⊎◌, ℕ, List, [], Some, None, string_bytes}
+use Rattle.jp_check.specs.Numbers.{numbers}
 use Rattle.jp_check.specs.declared.profile.Profile.{Profile}
 use Rattle.jp_command.specs.declared.form.Form.{Form}
 use Rattle.jp_limit.specs.declared.output_limit.OutputLimit.{OutputLimit}
@@ -43,7 +44,7 @@ IsEvalOutcome form profile query document most (Fault fault) =
     × IsNoAnswer most p f query document fault × IsPlaceless fault
 IsEvalOutcome form profile query document most (Misread fault place) =
     (f : Form) × (p : Profile) × (form_of form ≡ Some f) × (profile_of profile ≡ Some p)
-    × IsNoAnswer most p f query document (Document fault) × IsMisreadAt document place
+    × IsNoAnswer most p f query document (Document fault) × IsMisreadAt (numbers p) document place
 
 -- of `jp_canon`: the canonical text, or why there is none
 abbrev pub IsCanonOutcome : ℕ → List ℕ → outcome.Outcome → Type 0

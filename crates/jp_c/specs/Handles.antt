@@ -1,6 +1,7 @@
 -- What handles keep, and how they are filled.
 use Rattle.std.specs.Prelude.{◌≡◌, ℕ, List, [], Option, None, Some, string_bytes}
 use Rattle.jp_check.specs.declared.profile.Profile.{Profile}
+use Rattle.jp_decimal.specs.declared.numbers.Numbers.TheVariants.{Whole}
 use Rattle.jp_document.specs.Document.{IsDocument}
 use Rattle.jp_flat.specs.FlatValue.{document_in}
 use Rattle.jp_document.specs.Value.{Value}
@@ -27,27 +28,32 @@ abbrev pub query_kept : Option Kept → Option QueryTree
 query_kept (Some (kept.Query a)) = Some (query_of a.query.query)
 query_kept _ = None
 
+-- the profile that the query is accepted in that is kept, if one is
+abbrev pub profile_kept : Option Kept → Option Profile
+profile_kept (Some (kept.Query a)) = Some a.query.profile
+profile_kept _ = None
+
 -- the document that is kept, if one is
 abbrev pub document_kept : Option Kept → Option Value
 document_kept (Some (kept.Document d)) = Some (document_in d)
 document_kept _ = None
 
--- of `jp_query_new`: the query is accepted and kept; or it is refused as `jp_check` does, and nothing
--- is kept
+-- of `jp_query_new`: the query is accepted and kept with its profile; or it is refused as `jp_check` does, and
+-- nothing is kept
 abbrev pub IsQueryMade : ℕ → List ℕ → outcome.Outcome → Option Kept → Type 0
 IsQueryMade profile query (Text text) now =
     (p : Profile) × (q : QueryTree) × (profile_of profile ≡ Some p) × IsAcceptedInBytes p query q
-    × (string_bytes text ≡ []) × (query_kept now ≡ Some q)
+    × (string_bytes text ≡ []) × (query_kept now ≡ Some q) × (profile_kept now ≡ Some p)
 IsQueryMade profile query o now = IsCheckOutcome profile query o × (now ≡ None)
 
--- of `jp_document_new`: the bytes are a document, which is kept; or why they are none, and where, and
--- nothing is kept
+-- of `jp_document_new`: the bytes are a document of whole numbers, which is kept; or why they are none, and where,
+-- and nothing is kept
 abbrev pub IsDocumentMade : List ℕ → outcome.Outcome → Option Kept → Type 0
 IsDocumentMade bytes (Text text) now =
     (d : Value) × IsDocument bytes d × Fits bytes × (string_bytes text ≡ [])
     × (document_kept now ≡ Some d)
 IsDocumentMade bytes Usage now = ⊥
 IsDocumentMade bytes (Fault fault) now =
-    IsNoDocument bytes fault × (now ≡ None) × IsPlaceless fault
+    IsNoDocument Whole bytes fault × (now ≡ None) × IsPlaceless fault
 IsDocumentMade bytes (Misread fault place) now =
-    IsNoDocument bytes (find.Document fault) × (now ≡ None) × IsMisreadAt bytes place
+    IsNoDocument Whole bytes (find.Document fault) × (now ≡ None) × IsMisreadAt Whole bytes place

@@ -2,6 +2,7 @@
 use Rattle.std.specs.Prelude.{◌≡◌, ℕ, List, [], ◌++◌, codes}
 use Rattle.jp_document.specs.Document.{IsDocument}
 use Rattle.jp_document.specs.Value.{Value}
+use Rattle.jp_decimal.specs.declared.numbers.Numbers.{Numbers}
 use Rattle.jp_decimal.specs.declared.numbers.Numbers.TheVariants.{Whole}
 use Rattle.jp_json.specs.Misreading.{IsMisreading}
 use Rattle.jp_json.specs.Names.{name_of}
@@ -11,9 +12,9 @@ use Rattle.jp_c.specs.declared.misread.DocumentPart.{DocumentPart}
 use Rattle.jp_c.specs.declared.misread.DocumentPart.TheVariants.{Line, Sentence, Reason}
 use Rattle.jp_c.specs.declared.misread.Place.{Place}
 
--- the bytes are no document, by a reason that is told at this byte
-abbrev pub IsMisreadAt : List ℕ → ℕ → Type 0
-IsMisreadAt bytes place = (m : Misreading) × IsMisreading Whole bytes m × (place ≡ m.offset)
+-- the bytes are no document with such numbers, by a reason that is told at this byte
+abbrev pub IsMisreadAt : Numbers → List ℕ → ℕ → Type 0
+IsMisreadAt n bytes place = (m : Misreading) × IsMisreading n bytes m × (place ≡ m.offset)
 
 -- no place
 abbrev pub nowhere : Place
@@ -29,7 +30,8 @@ part_text Line m = misreading_text m ++ codes "\n"
 part_text Sentence m = m.sentence.now
 part_text Reason m = name_of m.reason
 
--- the bytes are misread so, and what is told is that part of the misreading, and its place
+-- the bytes, which are to be a document of whole numbers, are misread so, and what is told is that part of the
+-- misreading, and its place
 pub record TellsMisreading (part : DocumentPart) (bytes told : List ℕ) (place : Place) : Type 0 where
   pub m : Misreading
   pub is : IsMisreading Whole bytes m

@@ -1,7 +1,8 @@
 -- The numbers of forms, of profiles, and of the parts of explanations.
 use Rattle.std.specs.Prelude.{ℕ, ◌==◌, if◌then◌else◌, Option, Some, None}
 use Rattle.jp_check.specs.declared.profile.Profile.{Profile}
-use Rattle.jp_check.specs.declared.profile.Profile.TheVariants.{Standard, Extended}
+use Rattle.jp_check.specs.declared.profile.Profile.TheVariants.{Standard, Extended, Decimal}
+use Rattle.jp_check.specs.declared.profile.Profile.TheVariants.{ExtendedDecimal}
 use Rattle.jp_command.specs.declared.form.Form.{Form}
 use Rattle.jp_command.specs.Lines.{both, paths, values}
 use Rattle.jp_c.specs.declared.explained.Part.{Part}
@@ -16,7 +17,9 @@ form_of n =
 
 -- the profile of a number, if there is one
 abbrev pub profile_of : ℕ → Option Profile
-profile_of n = if n == 0 then Some Standard else if n == 1 then Some Extended else None
+profile_of n =
+    if n == 0 then Some Standard else if n == 1 then Some Extended
+    else if n == 2 then Some Decimal else if n == 3 then Some ExtendedDecimal else None
 
 -- the part of a query's explanation of a number, if there is one
 abbrev pub part_of : ℕ → Option Part

@@ -4,6 +4,7 @@ ghost use Rattle.std.specs.Prelude.{◌≡◌, ◌⊎◌, IfErr, IfOk, length, s
 ghost use Rattle.jp_command.specs.Lines.{output_of};
 ghost use Rattle.std.specs.Str.{IsUtf8};
 ghost use Rattle.jp_decimal.specs.declared.numbers.Numbers.TheVariants.{Whole};
+ghost use Rattle.jp_check.specs.Numbers.{numbers};
 ghost use Rattle.jp_document.specs.Document.{IsDocument};
 ghost use Rattle.jp_evaluate.specs.Nodelist.{nodelist};
 ghost use Rattle.jp_evaluate.specs.Plan.{HoldsPortion, IsReadToAnswer};
@@ -54,6 +55,7 @@ fn text_of(query: &[u8]) -> Result<&str, Refusal>
 /// The query that these bytes are in a profile.
 pub(crate) fn asked(alloc: Global, query: &[u8], profile: Profile) -> Result<Checked, FindFault>
     ensures asked { IfOk result (λ c. IsAcceptedInBytes profile query.now (query_of c.query)) }
+    ensures profile { IfOk result (λ c. c.profile ≡ profile) }
     ensures fault { IfErr result (IsQueryFault profile query.now) }
 {
     Ok(read_bytes(alloc, query, profile)?)
@@ -62,6 +64,7 @@ pub(crate) fn asked(alloc: Global, query: &[u8], profile: Profile) -> Result<Che
 /// The query that these bytes are in a profile, or how it is refused.
 pub(crate) fn read_bytes(alloc: Global, query: &[u8], profile: Profile) -> Result<Checked, Refusal>
     ensures asked { IfOk result (λ c. IsAcceptedInBytes profile query.now (query_of c.query)) }
+    ensures profile { IfOk result (λ c. c.profile ≡ profile) }
     ensures refused { IfErr result
         (λ r. (r.kind ≡ NoMemory) ⊎ RefusesBytes profile query.now r) }
 {
@@ -72,34 +75,37 @@ pub(crate) fn read_bytes(alloc: Global, query: &[u8], profile: Profile) -> Resul
 /// The query that this text is in a profile, or how it is refused.
 fn read_text(alloc: Global, text: &str, profile: Profile) -> Result<Checked, Refusal>
     ensures asked { IfOk result (λ c. IsAcceptedInBytes profile text.now (query_of c.query)) }
+    ensures profile { IfOk result (λ c. c.profile ≡ profile) }
     ensures refused { IfErr result
         (λ r. (r.kind ≡ NoMemory) ⊎ RefusesBytes profile text.now r) }
 {
     read_query(alloc, text, profile)
 }
 
-/// The document that these bytes are, in tables.
+/// The document of whole numbers that these bytes are, in tables.
 pub(crate) fn read_document(alloc: Global, bytes: &[u8]) -> Result<Flat<'_>, FindFault>
     ensures document { IfOk result
         (λ flat. IsDocument bytes.now (document_in flat) × Fits bytes.now) }
-    ensures fault { IfErr result (IsNoDocument bytes.now) }
+    ensures fault { IfErr result (IsNoDocument Whole bytes.now) }
 {
     check_size(bytes)?;
     Ok(read_flat(alloc, bytes, Numbers::Whole)?)
 }
 
-/// The document that these bytes are, of which what the plan does not ask for may be left out.
+/// The document with such numbers that these bytes are, of which what the plan does not ask for may be left
+/// out.
 pub(crate) fn read_for<'t>(
     alloc: Global,
     bytes: &'t [u8],
     plan: &Plan,
+    numbers: Numbers,
 ) -> Result<Flat<'t>, FindFault>
     ensures document { IfOk result
-        (λ flat. HoldsPortion Whole plan.now.portion bytes.now flat × Fits bytes.now) }
-    ensures fault { IfErr result (IsNoDocument bytes.now) }
+        (λ flat. HoldsPortion numbers plan.now.portion bytes.now flat × Fits bytes.now) }
+    ensures fault { IfErr result (IsNoDocument numbers bytes.now) }
 {
     check_size(bytes)?;
-    match plan.read_document(alloc, Room::new(alloc), bytes, Numbers::Whole) {
+    match plan.read_document(alloc, Room::new(alloc), bytes, numbers) {
         Ok(flat) => Ok(flat),
         Err((_, fault)) => Err(FindFault::from(fault)),
     }
@@ -130,7 +136,7 @@ pub(crate) fn lines(
 }
 
 /// The lines, in that form, of the nodes that a query selects in a document. Both are read here, the
-/// query first.
+/// query first, and the document with the numbers of its profile.
 pub(crate) fn answer(
     alloc: Global,
     query: &[u8],
@@ -169,8 +175,9 @@ pub(crate) fn answer_from(
 ) -> Result<String, FindFault>
     requires asked { IsReadAs profile query.now asked.now }
     requires document { IfOk asked.now (λ c. IfOk read.now (λ flat.
-        IsReadToAnswer Whole (query_of c.query) document.now (Document flat) × Fits document.now)) }
-    requires fault { IfErr read.now (IsNoDocument document.now) }
+        IsReadToAnswer (numbers profile) (query_of c.query) document.now (Document flat)
+        × Fits document.now)) }
+    requires fault { IfErr read.now (IsNoDocument (numbers profile) document.now) }
     ensures answer { IfOk result (λ text.
         IsAnswer (output_within limit) profile form query.now document.now (string_bytes text)) }
     ensures fault { IfErr result

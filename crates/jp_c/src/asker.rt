@@ -8,9 +8,10 @@ ghost use Rattle.jp_c.specs.Outcome.{report_of, told_text};
 ghost use Rattle.jp_c.specs.Private.Askers.{LendsText};
 ghost use Rattle.jp_c.specs.declared.outcome.Outcome.TheVariants.{Fault, Text};
 ghost use Rattle.jp_c.specs.Private.Spending.{Spends, steps_of_limit};
+ghost use Rattle.jp_check.specs.Numbers.{numbers};
 ghost use Rattle.jp_command.specs.Lines.{lines_of};
 ghost use Rattle.jp_command.specs.Selecting.{nodes_behind};
-ghost use Rattle.jp_document.specs.Document.{IsDocument};
+ghost use Rattle.jp_document.specs.Exact.{IsDocumentIn};
 ghost use Rattle.jp_document.specs.Value.{Value};
 ghost use Rattle.jp_evaluate.specs.Plan.{nodes_read};
 ghost use Rattle.jp_flat.specs.FlatValue.{lent_flat};
@@ -26,7 +27,7 @@ use crate::limit::{Limit, most};
 use crate::memory::Memory;
 use crate::outcome::{Answered, Report};
 use crate::planned::Planned;
-use jp_check::Checked;
+use jp_check::{Checked, Profile};
 use jp_command::{Form, push_found, push_selected};
 use jp_flat::FlatValue;
 use jp_held::Excerpt;
@@ -46,7 +47,15 @@ impl Asker {
         })
     }
 
-    /// Makes the memory's text the lines of the first nodes in the document that these bytes are.
+    /// The profile that the query is accepted in.
+    pub(crate) fn profile(&self) -> Profile
+        ensures { result ≡ self.now.query.profile }
+    {
+        self.query.query().profile()
+    }
+
+    /// Makes the memory's text the lines of the first nodes in the document that these bytes are with the numbers of
+    /// the query's profile.
     pub(crate) fn ask(
         &mut self,
         alloc: Global,
@@ -58,14 +67,15 @@ impl Asker {
         steps: &mut Steps,
     ) -> Result<(), FindFault>
         ensures query { self.new.query ≡ self.old.query }
-        ensures answer { OnOk result ((d : Value) × IsDocument document.now d × Fits document.now
+        ensures answer { OnOk result ((d : Value)
+            × IsDocumentIn (numbers self.old.query.profile) document.now d × Fits document.now
             × (string_bytes self.new.memory.text
             ≡ answer_of from count form (query_of self.old.query.query) d)
             × StaysWithin (output_within limit)
             (length (nodes_asked from count (query_of self.old.query.query) d))
             (length (string_bytes self.new.memory.text))) }
-        ensures fault { IfErr result (IsNoAnswerOf from count form (query_of self.old.query.query)
-            document.now (output_within limit)) }
+        ensures fault { IfErr result (IsNoAnswerOf from count form self.old.query.profile
+            (query_of self.old.query.query) document.now (output_within limit)) }
         ensures spends { Spends result steps.old steps.new }
     {
         let Asker { query, memory } = self;

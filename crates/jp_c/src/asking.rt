@@ -2,7 +2,7 @@
 
 ghost use Rattle.std.specs.Prelude.{◌≡◌, None, Some, option_map};
 ghost use Rattle.jp_c.specs.Asking.{AnswersLent, IsAskDocumentOutcome, IsAskOutcome};
-ghost use Rattle.jp_c.specs.Handles.{document_kept, kept_by, query_kept};
+ghost use Rattle.jp_c.specs.Handles.{document_kept, kept_by, profile_kept, query_kept};
 ghost use Rattle.jp_c.specs.Limit.{Within};
 ghost use Rattle.jp_c.specs.Outcome.{report_of};
 ghost use Rattle.jp_c.specs.Private.Askers.{Asks, IsAskedOutcome};
@@ -18,8 +18,8 @@ use crate::outcome::{Outcome, Report};
 use jp_flat::Flat;
 use std::alloc::Global;
 
-/// Asks the query that the handle keeps of a document, as `jp_eval` does: a line for each node behind the
-/// first `from` ones, or for as many of these as `count` says, where 0 is all. The text is lent from the
+/// Asks the query that the handle keeps of a document, as `jp_eval` does in the query's profile: a line for each node
+/// behind the first `from` ones, or for as many of these as `count` says, where 0 is all. The text is lent from the
 /// handle until its next call. Where a call with the same query took enough memory before, this one takes
 /// none. Answers the report's status: 2 where the handle keeps no query, 10 where the evaluation needs more
 /// steps than the limit allows, 8 where there are more nodes and 9 where their lines have more bytes.
@@ -38,6 +38,7 @@ pub extern "C" fn jp_ask(
     ensures answers { AnswersLent (Within limit.now (IsAskOutcome form from count (kept_by query.old) document.now))
         (kept_by query.new) text.new report.new result }
     ensures query { query_kept (kept_by query.new) ≡ query_kept (kept_by query.old) }
+    ensures profile { profile_kept (kept_by query.new) ≡ profile_kept (kept_by query.old) }
     ensures document { document_kept (kept_by query.new) ≡ document_kept (kept_by query.old) }
 {
     let mut kept = Handle::take(alloc, query);
@@ -74,6 +75,7 @@ pub extern "C" fn jp_ask_document(
         (Within limit.now (IsAskDocumentOutcome form from count (kept_by query.old) (kept_by document.old)))
         (kept_by query.new) text.new report.new result }
     ensures query { query_kept (kept_by query.new) ≡ query_kept (kept_by query.old) }
+    ensures profile { profile_kept (kept_by query.new) ≡ profile_kept (kept_by query.old) }
     ensures other { document_kept (kept_by query.new) ≡ document_kept (kept_by query.old) }
     ensures document { kept_by document.new ≡ kept_by document.old }
 {
@@ -189,6 +191,7 @@ fn asked_of(alloc: Global, kept: &mut Kept, given: Given<'_>, wanted: Wanted) ->
     let mut steps = steps_within(wanted.limit.steps);
     match given {
         Given::Bytes(document) => {
+            let profile = asker.profile();
             let answer = asker.ask(
                 alloc,
                 form,
@@ -199,7 +202,7 @@ fn asked_of(alloc: Global, kept: &mut Kept, given: Given<'_>, wanted: Wanted) ->
                 &mut steps,
             );
             let (answered, spare) = asker.answered(alloc, wanted.limit.steps, steps, answer);
-            asker.tell(answered.placed(alloc, document, None), spare)
+            asker.tell(answered.placed(alloc, document, profile, None), spare)
         }
         Given::Document(flat) => {
             let answer = asker.ask_value(

@@ -24,7 +24,7 @@ pub extern "C" fn jp_version() -> u32
 
 /// Writes a line for each node that the query selects in the document, in the nodelist's order (RFC
 /// 9535 section 2.1.2), in the form (0 values, 1 normalized paths, 2 both with a tab between) and
-/// the profile (0 `Standard`, 1 `Extended`) of these numbers, within the limit. Answers the report's status: 6
+/// the profile (0 `Standard`, 1 `Extended`, 2 `Decimal`, 3 `ExtendedDecimal`) of these numbers, within the limit. Answers the report's status: 6
 /// where the evaluation needs more steps, 8 where there are more nodes and 9 where their lines have more bytes.
 #[unsafe(no_mangle)]
 pub extern "C" fn jp_eval(
@@ -64,7 +64,7 @@ fn eval_outcome(
     };
     let mut steps = steps_within(limit.steps);
     let answer = answer(alloc, query, document, form, profile, limit, &mut steps);
-    Answered::within(limit.steps, steps, answer).placed(alloc, document, None)
+    Answered::within(limit.steps, steps, answer).placed(alloc, document, profile, None)
 }
 
 /// Writes the canonical text of the query, read in the profile of this number (RFC 9535 sections 2.1

@@ -2,9 +2,11 @@
 
 ghost use Rattle.std.specs.Prelude.{◌≡◌, [], IfErr, IfOk, None, Some};
 ghost use Rattle.jp_c.specs.Asked.{IsAcceptedInBytes, IsNoDocument, IsQueryFault};
-ghost use Rattle.jp_c.specs.Handles.{IsDocumentMade, IsQueryMade, document_kept, kept_by, query_kept};
+ghost use Rattle.jp_c.specs.Handles.{IsDocumentMade, IsQueryMade, document_kept, kept_by};
+ghost use Rattle.jp_c.specs.Handles.{profile_kept, query_kept};
 ghost use Rattle.jp_c.specs.Limit.{AtOnce};
 ghost use Rattle.jp_c.specs.Outcome.{Answers};
+ghost use Rattle.jp_decimal.specs.declared.numbers.Numbers.TheVariants.{Whole};
 ghost use Rattle.jp_document.specs.Document.{IsDocument};
 ghost use Rattle.jsonpath.specs.Size.{Fits};
 ghost use Rattle.jp_tree.specs.Tree.{QueryTree};
@@ -17,11 +19,12 @@ use crate::numbers::profile;
 use crate::outcome::{Answered, Outcome, Report, tell};
 use crate::refused::refused;
 use jp_check::Profile;
+use jp_decimal::Numbers;
 use jsonpath::FindFault;
 use std::alloc::Global;
 
-/// Keeps the query, read in the profile of this number (RFC 9535 sections 2.1 and 2.1.1), in place of
-/// what the handle kept; where it is refused the handle keeps nothing. Answers the report's status.
+/// Keeps the query, read in the profile of this number (RFC 9535 sections 2.1 and 2.1.1), with its profile in place
+/// of what the handle kept; where it is refused the handle keeps nothing. Answers the report's status.
 #[unsafe(no_mangle)]
 pub extern "C" fn jp_query_new(
     alloc: Global,
@@ -54,7 +57,7 @@ fn query_made(alloc: Global, query: &[u8], profile_number: u32) -> (Outcome, Han
 /// A handle that keeps the query.
 fn kept_query(alloc: Global, query: &[u8], profile: Profile) -> Result<Handle, FindFault>
     ensures kept { IfOk result (λ h. (q : QueryTree) × IsAcceptedInBytes profile query.now q
-        × (query_kept (kept_by h) ≡ Some q)) }
+        × (query_kept (kept_by h) ≡ Some q) × (profile_kept (kept_by h) ≡ Some profile)) }
     ensures fault { IfErr result (IsQueryFault profile query.now) }
 {
     let query = asked(alloc, query, profile)?;
@@ -62,8 +65,8 @@ fn kept_query(alloc: Global, query: &[u8], profile: Profile) -> Result<Handle, F
     Ok(Handle::keep(alloc, Kept::Query(asker))?)
 }
 
-/// Keeps the document in place of what the handle kept; where it is refused the handle keeps nothing,
-/// and the buffer gets the path of the first number that is not whole. Answers the report's status.
+/// Keeps the document of whole numbers in place of what the handle kept; where it is refused the handle keeps
+/// nothing, and the buffer gets the path of the first number that is not whole. Answers the report's status.
 #[unsafe(no_mangle)]
 pub extern "C" fn jp_document_new(
     alloc: Global,
@@ -86,7 +89,10 @@ fn document_made(alloc: Global, document: &[u8]) -> (Outcome, Handle)
 {
     match kept_document(alloc, document) {
         Ok(made) => (Outcome::Text(String::new(alloc)), made),
-        Err(fault) => (refused(alloc, fault, document, None), Handle::empty(alloc)),
+        Err(fault) => (
+            refused(alloc, fault, document, Numbers::Whole, None),
+            Handle::empty(alloc),
+        ),
     }
 }
 
@@ -94,7 +100,7 @@ fn document_made(alloc: Global, document: &[u8]) -> (Outcome, Handle)
 fn kept_document(alloc: Global, document: &[u8]) -> Result<Handle, FindFault>
     ensures kept { IfOk result (λ h. (d : Value) × IsDocument document.now d × Fits document.now
         × (document_kept (kept_by h) ≡ Some d)) }
-    ensures fault { IfErr result (IsNoDocument document.now) }
+    ensures fault { IfErr result (IsNoDocument Whole document.now) }
 {
     let document = read_document(alloc, document)?.owned(alloc)?;
     Ok(Handle::keep(alloc, Kept::Document(document))?)

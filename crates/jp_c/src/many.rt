@@ -13,7 +13,7 @@ ghost use Rattle.jp_c.specs.declared.outcome.Outcome.TheVariants.{Fault, Usage};
 
 use crate::asked::{answer_from, read_bytes, read_for};
 use crate::limit::{Limit, steps_within};
-use crate::numbers::{form, profile};
+use crate::numbers::{form, numbers_of_profile, profile};
 use crate::outcome::{Answered, Outcome, Report, fill};
 use crate::refused::place_of;
 use jp_check::Checked;
@@ -128,8 +128,8 @@ struct Subject<'d> {
 }
 
 impl<'d> Subject<'d> {
-    /// Reads what the plan asks for of the document, once for all of the queries. Where the document goes
-    /// wrong, its place is looked for too.
+    /// Reads what the plan asks for of the document, with the numbers of the profile, once for all of the queries.
+    /// Where the document goes wrong, its place is looked for too.
     fn read(
         alloc: Global,
         document: &'d [u8],
@@ -145,10 +145,11 @@ impl<'d> Subject<'d> {
         ensures limit { result.limit ≡ limit }
         ensures sound { IsSound result }
     {
-        let read = read_for(alloc, document, plan);
+        let numbers = numbers_of_profile(profile);
+        let read = read_for(alloc, document, plan, numbers);
         let place = match &read {
             Ok(_) => None,
-            Err(fault) => place_of(alloc, document, fault),
+            Err(fault) => place_of(alloc, document, numbers, fault),
         };
         Subject {
             alloc,
@@ -193,7 +194,7 @@ impl<'d> Subject<'d> {
             &mut steps,
         );
         let answered = Answered::within(self.limit.steps, steps, answer);
-        answered.placed(self.alloc, self.document, self.place)
+        answered.placed(self.alloc, self.document, profile, self.place)
     }
 }
 

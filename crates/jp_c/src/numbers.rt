@@ -2,6 +2,7 @@
 
 ghost use Rattle.std.specs.Prelude.{◌≡◌, ◌≢◌, IfSome, None};
 ghost use Rattle.jp_c.specs.Numbers.{document_part_of, form_of, part_of, profile_of};
+ghost use Rattle.jp_c.specs.Private.Subjects.{numbers_in};
 ghost use Rattle.jp_document.specs.Faults.{document_fault_number};
 ghost use Rattle.jp_document.specs.declared.fault.DocumentFault.{DocumentFault};
 ghost use Rattle.jp_query.specs.Refusal.{number_of};
@@ -11,6 +12,7 @@ use crate::explained::Part;
 use crate::misread::DocumentPart;
 use jp_check::Profile;
 use jp_command::Form;
+use jp_decimal::Numbers;
 use jp_document::DocumentFault;
 use jp_query::RefusalKind;
 use std::alloc::Global;
@@ -34,7 +36,19 @@ pub(crate) fn profile(number: u32) -> Option<Profile>
     match number {
         0 => Some(Profile::Standard),
         1 => Some(Profile::Extended),
+        2 => Some(Profile::Decimal),
+        3 => Some(Profile::ExtendedDecimal),
         _ => None,
+    }
+}
+
+/// The numbers of the profile of this number: whole ones where there is none, and then no query is asked.
+pub(crate) fn numbers_of_profile(number: u32) -> Numbers
+    ensures { result ≡ numbers_in (profile_of number) }
+{
+    match profile(number) {
+        Some(profile) => profile.numbers(),
+        None => Numbers::Whole,
     }
 }
 

@@ -1,13 +1,12 @@
 //! A query with its plan.
 
 ghost use Rattle.std.specs.Prelude.{◌≡◌, IfErr, IfOk};
-ghost use Rattle.jp_decimal.specs.declared.numbers.Numbers.TheVariants.{Whole};
-ghost use Rattle.jp_document.specs.Document.{IsDocumentFault};
+ghost use Rattle.jp_check.specs.Numbers.{numbers};
 ghost use Rattle.jp_evaluate.specs.Plan.{IsReadToAnswer};
+ghost use Rattle.jp_exact.specs.Defects.{IsDocumentFaultIn};
 ghost use Rattle.jp_tree.specs.Views.{query_of};
 
 use jp_check::Checked;
-use jp_decimal::Numbers;
 use jp_document::DocumentFault;
 use jp_evaluate::Plan;
 use jp_flat::Room;
@@ -54,18 +53,20 @@ impl Planned {
         &self.query
     }
 
-    /// So much of the document that these bytes are as the query's nodes come from, in the memory of other
-    /// documents, which an `Err` gives back with what is wrong with the bytes.
+    /// So much of the document with the numbers of the query's profile that these bytes are as the query's nodes
+    /// come from, in the memory of other documents, which an `Err` gives back with what is wrong with the bytes.
     pub(crate) fn read<'p, 't>(
         &'p self,
         alloc: Global,
         room: Room,
         bytes: &'t [u8],
     ) -> Result<Excerpt<'p, 't>, (Room, DocumentFault)>
-        ensures ok { IfOk result (IsReadToAnswer Whole (query_of self.now.query) bytes.now) }
-        ensures fault { IfErr result (λ e. IsDocumentFault bytes.now e.1) }
+        ensures ok { IfOk result
+            (IsReadToAnswer (numbers self.now.profile) (query_of self.now.query) bytes.now) }
+        ensures fault { IfErr result (λ e. IsDocumentFaultIn (numbers self.now.profile) bytes.now e.1) }
     {
-        let read = self.plan.read_into(alloc, room, bytes, Numbers::Whole)?;
+        let numbers = self.query.profile().numbers();
+        let read = self.plan.read_into(alloc, room, bytes, numbers)?;
         Ok(read)
     }
 }

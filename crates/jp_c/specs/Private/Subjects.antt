@@ -1,8 +1,10 @@
 -- The queries and the document of `jp_eval_many`, as they were read, and what each query is answered.
-use Rattle.std.specs.Prelude.{◌≡◌, ◌⊎◌, ℕ, List, Result, Some, IfErr, IfOk, IfSome, MatchResult}
+use Rattle.std.specs.Prelude.{◌≡◌, ◌⊎◌, ℕ, List, Option, Result, None, Some, IfErr, IfOk, IfSome, MatchResult}
 use Rattle.std.specs.Prelude.{slice_get}
 use Rattle.jp_check.specs.Checked.{Profiled}
+use Rattle.jp_check.specs.Numbers.{numbers}
 use Rattle.jp_check.specs.declared.profile.Profile.{Profile}
+use Rattle.jp_decimal.specs.declared.numbers.Numbers.{Numbers}
 use Rattle.jp_decimal.specs.declared.numbers.Numbers.TheVariants.{Whole}
 use Rattle.jp_evaluate.specs.Plan.{HoldsPortion, Serves}
 use Rattle.jp_held.specs.declared.portion.Portion.{Portion}
@@ -39,12 +41,22 @@ AreRead profile portion bytes questions reads =
     → slice_get questions i ≡ Some q → slice_get reads i ≡ Some r
     → IsReadToServe profile portion (query_asked bytes q) r
 
--- the tables hold that portion of the document, or the fault is why it is none, and the place is where
+-- the numbers of a profile, if it is one: else whole ones, with which no query is asked
+abbrev pub numbers_in : Option Profile → Numbers
+numbers_in (Some p) = numbers p
+numbers_in None = Whole
+
+-- the tables hold that portion of the document with such numbers, or the fault is why it is none, and the place
+-- is where
+pub record IsReadIn (n : Numbers) (s : Subject) : Type 0 where
+  pub tables : IfOk s.read
+      (λ flat. HoldsPortion n s.plan.now.portion s.document.now flat × Fits s.document.now)
+  pub fault : IfErr s.read (IsNoDocument n s.document.now)
+  pub place : IfSome s.place (IsMisreadAt n s.document.now)
+
+-- so the document was read with the numbers of the profile of that number
 abbrev pub IsSound : Subject → Type 0
-IsSound s =
-    IfOk s.read (λ flat. HoldsPortion Whole s.plan.now.portion s.document.now flat × Fits s.document.now)
-    × IfErr s.read (IsNoDocument s.document.now)
-    × IfSome s.place (IsMisreadAt s.document.now)
+IsSound s = IsReadIn (numbers_in (profile_of s.profile)) s
 
 -- a query has such an outcome, by so many steps
 abbrev pub IsAnswered : Subject → List ℕ → outcome.Outcome → ℕ → Type 0

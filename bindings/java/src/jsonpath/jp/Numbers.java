@@ -16,6 +16,8 @@ final class Numbers {
     static final int BOTH = 2;
     static final int STANDARD = 0;
     static final int EXTENDED = 1;
+    static final int DECIMAL = 2;
+    static final int EXTENDED_DECIMAL = 3;
     static final int EXPLANATION = 0;
     static final int SENTENCE = 1;
     static final int SUGGESTION = 2;

@@ -8,7 +8,7 @@ public enum QueryKind {
     TOO_DEEP(2, "TooDeep"),
     /** A literal with a fraction or an exponent. */
     NOT_WHOLE(3, "NotWhole"),
-    /** A literal outside -(2^63) to (2^64)-1. */
+    /** A literal outside -(2^63) to (2^64)-1, or of decimals one that is too much for one. */
     NUMBER_RANGE(4, "NumberRange"),
     /** An index or a part of a slice outside -(2^53)+1 to (2^53)-1. */
     INDEX_RANGE(5, "IndexRange"),

@@ -1,10 +1,12 @@
 use Rattle.std.proofs.Common.{◌∙◌, Some, ap, length, refl, subst, sym}
+use Rattle.jp_check.specs.Numbers.{numbers}
 use Rattle.jp_flat.specs.FlatValue.{lent_flat}
 use Rattle.jp_tree.specs.Views.{query_of}
 use Rattle.jp_c.specs.Asking.{IsAskedOf, text}
-use Rattle.jp_c.specs.Handles.{document_kept, query_kept}
+use Rattle.jp_c.specs.Handles.{document_kept, profile_kept, query_kept}
 use Rattle.jp_c.specs.Limit.{Within, output_within}
 use Rattle.jp_c.specs.Private.Askers.{IsAskedOutcome, IsValueOutcome}
+use Rattle.jp_c.specs.Private.Placing.{IsPlaced}
 use Rattle.jp_c.proofs.LentAnswers.{told_of_bytes, told_of_value}
 use Rattle.jp_c.proofs.asking.asked_of.Goals as goal
 
@@ -17,15 +19,19 @@ returns-in-Bytes c =
     let q = query_of c.in-Query.asker.query.query in
     let o = c.placed.result.outcome in
     let steps = c.placed.result.steps in
-    let is : IsAskedOf w.form kept f q = record {
+    let p = c.in-Query.asker.query.profile in
+    let is : IsAskedOf w.form kept f p q = record {
       form_is = sym c.form.ensures ∙ c.in-Some.is;
+      profile_is = ap (λ k. profile_kept (Some k)) c.in-Query.is;
       query_is = ap (λ k. query_kept (Some k)) c.in-Query.is;
     } in
-    let told = told_of_bytes w.limit w.form w.from w.count kept f q c.in-Bytes.document.now is steps
+    let placed = subst (λ x. IsPlaced (numbers x) c.in-Bytes.document.now c.answered-answered.result.0.outcome o)
+    c.profile-profile.ensures c.placed.ensures.outcome in
+    let told = told_of_bytes w.limit w.form w.from w.count kept f p q c.in-Bytes.document.now is steps
     c.ask-answer.new.self.memory.text c.ask-answer.result c.answered-answered.result.0.outcome o
     c.answered-answered.result.0.steps c.answered-answered.ensures.outcome
     c.ask-answer.ensures.answer c.ask-answer.ensures.fault c.answered-answered.ensures.makes
-    c.placed.ensures.steps c.placed.ensures.outcome in
+    c.placed.ensures.steps placed in
     let same = c.tell.ensures.query ∙ c.answered-answered.ensures.query ∙ c.ask-answer.ensures.query in
     record {
       answers = record {
@@ -39,6 +45,7 @@ returns-in-Bytes c =
             (c.tell.ensures.lends.length ∙ ap length c.tell.ensures.text);
       };
       query = ap (λ x. Some (query_of x.query)) same ∙ ap (λ k. query_kept (Some k)) (sym c.in-Query.is);
+      profile = ap (λ x. Some x.profile) same ∙ ap (λ k. profile_kept (Some k)) (sym c.in-Query.is);
       document = ap (λ k. document_kept (Some k)) (sym c.in-Query.is);
     }
 
@@ -52,12 +59,14 @@ returns-in-Document c =
     let answered = c.answered-answered-in-Document in
     let o = answered.result.0.outcome in
     let steps = answered.result.0.steps in
-    let is : IsAskedOf w.form kept f q = record {
+    let p = c.in-Query.asker.query.profile in
+    let is : IsAskedOf w.form kept f p q = record {
       form_is = sym c.form.ensures ∙ c.in-Some.is;
+      profile_is = ap (λ k. profile_kept (Some k)) c.in-Query.is;
       query_is = ap (λ k. query_kept (Some k)) c.in-Query.is;
     } in
     let most = output_within w.limit in
-    let told = told_of_value most w.form w.from w.count kept f q c.ask_value-answer.new.self.memory.text
+    let told = told_of_value most w.form w.from w.count kept f p q c.ask_value-answer.new.self.memory.text
     c.ask_value-answer.result o (lent_flat c.value.result) is answered.ensures.outcome
     c.ask_value-answer.ensures.answer c.ask_value-answer.ensures.within c.ask_value-answer.ensures.fault in
     let of_flat = subst (λ d. IsValueOutcome w.form w.from w.count kept d most o) c.value.ensures told in
@@ -76,5 +85,6 @@ returns-in-Document c =
             (c.tell-in-Document.ensures.lends.length ∙ ap length c.tell-in-Document.ensures.text);
       };
       query = ap (λ x. Some (query_of x.query)) same ∙ ap (λ k. query_kept (Some k)) (sym c.in-Query.is);
+      profile = ap (λ x. Some x.profile) same ∙ ap (λ k. profile_kept (Some k)) (sym c.in-Query.is);
       document = ap (λ k. document_kept (Some k)) (sym c.in-Query.is);
     }

@@ -24,5 +24,6 @@ returns-in-Some c =
         lends = x.lends;
       };
       query = c.asked.ensures.query;
+      profile = c.asked.ensures.profile;
       document = c.asked.ensures.document;
     }

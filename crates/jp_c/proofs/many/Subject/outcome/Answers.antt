@@ -1,5 +1,6 @@
-use Rattle.std.proofs.Common.{◌∙◌, IfSome, subst, sym}
-use Rattle.jp_c.specs.Private.Subjects.{IsReadToServe}
+use Rattle.std.proofs.Common.{◌∙◌, IfSome, ap, subst, sym}
+use Rattle.jp_check.specs.Numbers.{numbers}
+use Rattle.jp_c.specs.Private.Subjects.{IsReadIn, IsReadToServe, numbers_in}
 use Rattle.jp_c.proofs.Placed.{answer-told}
 use Rattle.jp_c.proofs.QueriesRead.{read-answers}
 use Rattle.jp_c.proofs.many.Subject.outcome.Goals as goal
@@ -18,8 +19,20 @@ answer_from-answer-requires-clause-document c =
     let read = subst
     (λ o. IfSome o (λ r. IsReadToServe self.profile self.plan.now.portion c.args.query.now r.now))
     c.in-Some-read.is c.requires.read in
-    read-answers c.in-Some-read.asked.now self.plan.now.portion self.document.now self.read read.serves
-    c.requires.sound.0
+    let is = sym c.profile.ensures ∙ c.in-Some-profile.is in
+    let sound = subst (λ n. IsReadIn n self) (ap numbers_in is) c.requires.sound in
+    read-answers (numbers c.in-Some-profile.profile) c.in-Some-read.asked.now self.plan.now.portion self.document.now
+    self.read read.serves sound.tables
+
+pub answer_from-answer-requires-clause-fault : goal.answer_from-answer-requires-clause-fault
+answer_from-answer-requires-clause-fault c =
+    let is = sym c.profile.ensures ∙ c.in-Some-profile.is in
+    (subst (λ n. IsReadIn n c.args.self.now) (ap numbers_in is) c.requires.sound).fault
+
+pub placed-requires-clause-known : goal.placed-requires-clause-known
+placed-requires-clause-known c =
+    let is = sym c.profile.ensures ∙ c.in-Some-profile.is in
+    (subst (λ n. IsReadIn n c.args.self.now) (ap numbers_in is) c.requires.sound).place
 
 pub returns : goal.returns
 returns c =
