@@ -33,6 +33,8 @@ mod matching;
 #[cfg(test)]
 mod misread_decimals;
 #[cfg(test)]
+mod nested;
+#[cfg(test)]
 mod numbers;
 #[cfg(test)]
 mod query;

@@ -3,10 +3,11 @@
 use jp_flat::{AskedFor, Room};
 use jp_lent::value_text;
 use std::alloc::{AllocError, Global};
+use std::process::Abort;
 use std::test::Fail;
 
 /// Documents, and what is kept of them where the members `a` and `bc` of the document are asked for.
-const OF_ROOT: [(&str, &str); 14] = [
+const OF_ROOT: &[(&str, &str)] = &[
     (r#"{"a":1,"b":2}"#, r#"{"a":1}"#),
     // members left out before, between and behind those that are asked for
     (
@@ -43,7 +44,7 @@ const OF_ROOT: [(&str, &str); 14] = [
 ];
 
 /// Documents, and what is kept of them where of a list's items the members `a` and `bc` are asked for.
-const OF_ITEMS: [(&str, &str); 16] = [
+const OF_ITEMS: &[(&str, &str)] = &[
     (r#"[{"a":1,"b":2},{"b":3},{}]"#, r#"[{"a":1},{},{}]"#),
     (r#"[{"x":0,"bc":1,"a":2}]"#, r#"[{"a":2,"bc":1}]"#),
     (
@@ -90,7 +91,7 @@ const OF_ITEMS: [(&str, &str); 16] = [
 ];
 
 /// Documents, and what is kept of them where members of the name `a` are asked for, wherever they stand.
-const ANYWHERE: [(&str, &str); 15] = [
+const ANYWHERE: &[(&str, &str)] = &[
     (r#"{"x":1,"y":"b","a":2}"#, r#"{"a":2}"#),
     (r#"{"x":1,"y":2}"#, "{}"),
     (
@@ -119,7 +120,7 @@ const ANYWHERE: [(&str, &str); 15] = [
 ];
 
 /// Bytes that are no document, though what is wrong is not asked for.
-const WRONG: [&str; 16] = [
+const WRONG: &[&str] = &[
     r#"[{"b":1.5,"a":1}]"#,
     r#"[{"b":[1,],"a":1}]"#,
     r#"[{"b":"\x","a":1}]"#,
@@ -139,7 +140,7 @@ const WRONG: [&str; 16] = [
 ];
 
 /// Objects that are no document, though what is wrong is in no member that is asked for.
-const WRONG_OBJECTS: [&str; 10] = [
+const WRONG_OBJECTS: &[&str] = &[
     r#"{"b":1.5,"a":1}"#,
     r#"{"a":1,"b":[1,]}"#,
     r#"{"b":"\x","a":1}"#,
@@ -152,19 +153,44 @@ const WRONG_OBJECTS: [&str; 10] = [
     r#"{"a":1,"b":2}}"#,
 ];
 
-/// The compact text of what is kept of a document, None where tables do not hold it.
-fn kept_text(alloc: Global, text: &str, asked: &AskedFor) -> Result<Option<String>, AllocError> {
+/// The compact text of what is kept of a document, `no document` where tables do not hold it.
+fn kept_text(alloc: Global, text: &str, asked: &AskedFor) -> Result<String, AllocError> {
     match Room::new(alloc).read_asked(text.as_bytes(), asked) {
-        Ok(flat) => Ok(Some(value_text(alloc, flat.value())?)),
-        Err(_) => Ok(None),
+        Ok(flat) => value_text(alloc, flat.value()),
+        Err(_) => String::from_str(alloc, "no document"),
     }
+}
+
+/// Asserts what is kept of each document.
+fn assert_kept(
+    rt: &impl Abort,
+    alloc: Global,
+    asked: &AskedFor,
+    rows: &[(&str, &str)],
+) -> Result<(), AllocError> {
+    for (text, wanted) in rows {
+        let kept = kept_text(alloc, text, asked)?;
+        assert_eq!(rt; kept.as_str(), *wanted, "{text}");
+    }
+    Ok(())
+}
+
+/// Asserts that tables hold none of the texts.
+fn assert_none_kept(rt: &impl Abort, alloc: Global, asked: &AskedFor, texts: &[&str]) {
+    for text in texts {
+        let kept = Room::new(alloc).read_asked(text.as_bytes(), asked);
+        assert!(rt; kept.is_err(), "{text}");
+    }
+}
+
+fn push_name(names: &mut Vec<String>, alloc: Global, name: &str) -> Result<(), AllocError> {
+    Ok(names.push(String::from_str(alloc, name)?)?)
 }
 
 fn names(alloc: Global) -> Result<Vec<String>, AllocError> {
     let mut names = Vec::new(alloc);
-    for name in ["a", "bc"] {
-        names.push(String::from_str(alloc, name)?)?;
-    }
+    push_name(&mut names, alloc, "a")?;
+    push_name(&mut names, alloc, "bc")?;
     Ok(names)
 }
 
@@ -183,43 +209,20 @@ fn anywhere(alloc: Global) -> Result<AskedFor, AllocError> {
 #[test]
 fn members_of_the_root(rt: HostRuntime) -> Result<(), Fail> {
     let asked = of_root(rt.alloc())?;
-    for (text, wanted) in OF_ROOT {
-        let kept = kept_text(rt.alloc(), text, &asked)?;
-        assert_eq!(rt; kept.as_deref(), Some(wanted), "{text}");
-    }
-    for text in WRONG_OBJECTS {
-        assert_eq!(rt; kept_text(rt.alloc(), text, &asked)?, None, "{text}");
-    }
-    Ok(())
+    assert_none_kept(&rt, rt.alloc(), &asked, WRONG_OBJECTS);
+    Ok(assert_kept(&rt, rt.alloc(), &asked, OF_ROOT)?)
 }
 
 #[test]
 fn members_of_items(rt: HostRuntime) -> Result<(), Fail> {
     let asked = of_items(rt.alloc())?;
-    for (text, wanted) in OF_ITEMS {
-        let kept = kept_text(rt.alloc(), text, &asked)?;
-        assert_eq!(rt; kept.as_deref(), Some(wanted), "{text}");
-    }
-    Ok(())
+    assert_none_kept(&rt, rt.alloc(), &asked, WRONG);
+    Ok(assert_kept(&rt, rt.alloc(), &asked, OF_ITEMS)?)
 }
 
 #[test]
 fn members_anywhere(rt: HostRuntime) -> Result<(), Fail> {
     let asked = anywhere(rt.alloc())?;
-    for (text, wanted) in ANYWHERE {
-        let kept = kept_text(rt.alloc(), text, &asked)?;
-        assert_eq!(rt; kept.as_deref(), Some(wanted), "{text}");
-    }
-    Ok(())
-}
-
-#[test]
-fn wrong_where_nothing_is_asked_for(rt: HostRuntime) -> Result<(), Fail> {
-    let items = of_items(rt.alloc())?;
-    let anywhere = anywhere(rt.alloc())?;
-    for text in WRONG {
-        assert_eq!(rt; kept_text(rt.alloc(), text, &items)?, None, "{text}");
-        assert_eq!(rt; kept_text(rt.alloc(), text, &anywhere)?, None, "{text}");
-    }
-    Ok(())
+    assert_none_kept(&rt, rt.alloc(), &asked, WRONG);
+    Ok(assert_kept(&rt, rt.alloc(), &asked, ANYWHERE)?)
 }

@@ -1,15 +1,16 @@
 //! Rows of texts with escapes, read into tables (RFC 8259 section 7).
 
-use jp_document::Step;
+use crate::flat::documents::{assert_no_documents, assert_printed};
+use crate::flat::values::push_members;
 use jp_flat::flat_document;
-use jp_lent::value_text;
 use std::alloc::{AllocError, Global};
+use std::process::Abort;
 use std::test::Fail;
 
 /// A text between its quotes in a document, and what it holds, as compact text between quotes.
 type Row = (&'static str, &'static str);
 
-const TEXTS: [Row; 46] = [
+const TEXTS: &[Row] = &[
     // each escape alone
     (r#"\""#, r#"\""#),
     (r"\\", r"\\"),
@@ -68,7 +69,7 @@ const TEXTS: [Row; 46] = [
 ];
 
 /// Texts between quotes that hold nothing.
-const WRONG: [&str; 32] = [
+const WRONG: &[&str] = &[
     r"\x",
     r"\a",
     r"\0",
@@ -103,14 +104,6 @@ const WRONG: [&str; 32] = [
     "\\\n",
 ];
 
-/// The compact text of a document in tables, None where they do not hold it.
-fn flat_text(alloc: Global, text: &str) -> Result<Option<String>, AllocError> {
-    match flat_document(alloc, text.as_bytes()) {
-        Some(flat) => Ok(Some(value_text(alloc, flat.value())?)),
-        None => Ok(None),
-    }
-}
-
 /// A text between quotes.
 fn quoted(alloc: Global, text: &str) -> Result<String, AllocError> {
     format!(in alloc; "\"{text}\"")
@@ -136,94 +129,76 @@ fn as_name(alloc: Global, text: &str) -> Result<String, AllocError> {
     format!(in alloc; "{{\"{text}\":1}}")
 }
 
-/// Whether a document is printed so.
-fn is_printed(alloc: Global, document: &str, wanted: &str) -> Result<bool, AllocError> {
-    match flat_text(alloc, document)? {
-        Some(text) => Ok(text.as_str() == wanted),
-        None => Ok(false),
-    }
-}
-
-/// Whether a text is read as it must be where it is the document, and where it stands in one.
-fn is_read_as_value(alloc: Global, row: &Row) -> Result<bool, AllocError> {
-    let alone = quoted(alloc, row.0)?;
+/// Asserts that a text is read as it must be where it is the document.
+fn assert_read_alone(rt: &impl Abort, alloc: Global, row: &Row) -> Result<(), AllocError> {
+    let text = quoted(alloc, row.0)?;
     let wanted = quoted(alloc, row.1)?;
-    if !is_printed(alloc, alone.as_str(), wanted.as_str())? {
-        return Ok(false);
-    }
-    let among = among_values(alloc, row.0)?;
+    assert_printed(rt, alloc, text.as_str(), wanted.as_str())
+}
+
+/// Asserts that a text is read as it must be where it stands among other values.
+fn assert_read_among_values(rt: &impl Abort, alloc: Global, row: &Row) -> Result<(), AllocError> {
+    let text = among_values(alloc, row.0)?;
     let wanted = among_values(alloc, row.1)?;
-    is_printed(alloc, among.as_str(), wanted.as_str())
+    assert_printed(rt, alloc, text.as_str(), wanted.as_str())
 }
 
-/// Whether a text is read as it must be where it is a name.
-fn is_read_as_name(alloc: Global, row: &Row) -> Result<bool, AllocError> {
-    let object = before_no_name(alloc, row.0)?;
+/// Asserts that a text is read as it must be where it is a name.
+fn assert_read_as_name(rt: &impl Abort, alloc: Global, row: &Row) -> Result<(), AllocError> {
+    let text = before_no_name(alloc, row.0)?;
     let wanted = behind_no_name(alloc, row.1)?;
-    is_printed(alloc, object.as_str(), wanted.as_str())
-}
-
-/// Whether a text is refused where it is a value and where it is a name.
-fn is_refused(alloc: Global, spelled: &str) -> Result<bool, AllocError> {
-    let value = quoted(alloc, spelled)?;
-    let name = as_name(alloc, spelled)?;
-    Ok(flat_text(alloc, value.as_str())?.is_none() && flat_text(alloc, name.as_str())?.is_none())
+    assert_printed(rt, alloc, text.as_str(), wanted.as_str())
 }
 
 #[test]
-fn values_with_escapes(rt: HostRuntime) -> Result<(), Fail> {
-    for row in &TEXTS {
-        assert!(rt; is_read_as_value(rt.alloc(), row)?, "{}", row.0);
-    }
-    Ok(())
-}
-
-#[test]
-fn names_with_escapes(rt: HostRuntime) -> Result<(), Fail> {
-    for row in &TEXTS {
-        assert!(rt; is_read_as_name(rt.alloc(), row)?, "{}", row.0);
+fn texts_with_escapes(rt: HostRuntime) -> Result<(), Fail> {
+    for row in TEXTS {
+        assert_read_alone(&rt, rt.alloc(), row)?;
+        assert_read_among_values(&rt, rt.alloc(), row)?;
+        assert_read_as_name(&rt, rt.alloc(), row)?;
     }
     Ok(())
 }
 
 #[test]
 fn a_name_with_escapes_is_found(rt: HostRuntime) -> Result<(), Fail> {
-    let text = r#"{"a\/b":1,"a\u002fc":2,"\"":3,"\\\"\/\t":4}"#;
-    let flat = flat_document(rt.alloc(), text.as_bytes()).ok_or("no document")?;
-    for (name, wanted) in [("a/b", "1"), ("a/c", "2"), ("\"", "3"), ("\\\"/\t", "4")] {
-        let (step, value) = flat.value().member(name).ok_or("no member")?;
-        assert!(rt;
-            matches!(step, Step::Name(found) if found == name),
-            "{name}"
-        );
-        let text = value_text(rt.alloc(), value)?;
-        assert_eq!(rt; text.as_str(), wanted, "{name}");
-    }
+    let text = br#"{"a\/b":1,"a\u002fc":2,"\"":3,"\\\"\/\t":4}"#;
+    let flat = flat_document(rt.alloc(), text).ok_or("no document")?;
+    let mut lines = String::new(rt.alloc());
+    push_members(&mut lines, flat.value(), &["a/b", "a/c", "\"", "\\\"/\t"])?;
+    assert_eq!(rt; lines.as_str(), "a/b 1\na/c 2\n\" 3\n\\\"/\t 4\n");
+    Ok(())
+}
+
+/// Asserts that a text is refused where it is a value and where it is a name.
+fn assert_refused(rt: &impl Abort, alloc: Global, spelled: &str) -> Result<(), AllocError> {
+    let value = quoted(alloc, spelled)?;
+    let name = as_name(alloc, spelled)?;
+    assert_no_documents(rt, alloc, &[value.as_str(), name.as_str()]);
     Ok(())
 }
 
 #[test]
 fn wrong_escapes(rt: HostRuntime) -> Result<(), Fail> {
-    for spelled in &WRONG {
-        assert!(rt; is_refused(rt.alloc(), spelled)?, "{spelled}");
+    for spelled in WRONG {
+        assert_refused(&rt, rt.alloc(), spelled)?;
     }
     Ok(())
 }
 
+const WITHOUT_END: &[&str] = &[
+    r#"""#,
+    r#""\"#,
+    r#""\""#,
+    r#""\n"#,
+    r#""\u"#,
+    r#""\u0041"#,
+    r#""a\\\""#,
+    r#"["\/"#,
+    r#"{"\/"#,
+];
+
 #[test]
-fn texts_that_do_not_end(rt: HostRuntime) -> Result<(), Fail> {
-    for text in [
-        r#"""#,
-        r#""\"#,
-        r#""\""#,
-        r#""\n"#,
-        r#""\u"#,
-        r#""\u0041"#,
-        r#""a\\\""#,
-        r#"["\/"#,
-        r#"{"\/"#,
-    ] {
-        assert_eq!(rt; flat_text(rt.alloc(), text)?, None, "{text}");
-    }
-    Ok(())
+fn texts_that_do_not_end(rt: HostRuntime) {
+    assert_no_documents(&rt, rt.alloc(), WITHOUT_END);
 }

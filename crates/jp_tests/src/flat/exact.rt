@@ -2,11 +2,13 @@
 //! written in the layout of RFC 8785 section 3.2.2.3.
 
 use jp_flat::Room;
-use jp_lent::value_text;
+use jp_lent::push_value;
+use std::alloc::{AllocError, Global};
+use std::process::Abort;
 use std::test::Fail;
 
 /// Documents, and what they are read as.
-const DOCUMENTS: [(&str, &str); 22] = [
+const DOCUMENTS: &[(&str, &str)] = &[
     ("8.950", "8.95"),
     ("-0", "0"),
     ("-0.0", "0"),
@@ -36,7 +38,7 @@ const DOCUMENTS: [(&str, &str); 22] = [
 
 /// Texts that are no documents with exact numbers: no JSON, or a number of too many digits or with too
 /// great an exponent.
-const REFUSED: [&str; 12] = [
+const REFUSED: &[&str] = &[
     "1.",
     ".5",
     "01",
@@ -51,18 +53,40 @@ const REFUSED: [&str; 12] = [
     "123456789012345678901234567890123456789",
 ];
 
+/// Appends the compact text of a document that is read into a memory, and gives the memory back.
+fn push_exact(line: &mut String, room: Room, text: &str) -> Result<Room, AllocError> {
+    match room.read_exact(text.as_bytes()) {
+        Ok(flat) => {
+            push_value(line, flat.value())?;
+            Ok(flat.into_room())
+        }
+        Err(room) => {
+            line.push_str("no document")?;
+            Ok(room)
+        }
+    }
+}
+
+/// Asserts what each document is read as, which stands on a line for a while.
+fn assert_each_read(
+    rt: &impl Abort,
+    alloc: Global,
+    line: &mut String,
+    rows: &[(&str, &str)],
+) -> Result<(), AllocError> {
+    let mut room = Room::new(alloc);
+    for (text, wanted) in rows {
+        line.clear();
+        room = push_exact(line, room, text)?;
+        assert_eq!(rt; line.as_str(), *wanted, "{text}");
+    }
+    Ok(())
+}
+
 #[test]
 fn exact_documents(rt: HostRuntime) -> Result<(), Fail> {
-    let alloc = rt.alloc();
-    let mut room = Room::new(alloc);
-    for (text, expected) in DOCUMENTS {
-        let Ok(flat) = room.read_exact(text.as_bytes()) else {
-            return Err(Fail::from("a document is refused"));
-        };
-        let written = value_text(alloc, flat.value())?;
-        assert_eq!(rt; written.as_str(), expected, "{text}");
-        room = flat.into_room();
-    }
+    let mut line = String::new(rt.alloc());
+    assert_each_read(&rt, rt.alloc(), &mut line, DOCUMENTS)?;
     Ok(())
 }
 
@@ -70,23 +94,19 @@ fn exact_documents(rt: HostRuntime) -> Result<(), Fail> {
 fn no_exact_documents(rt: HostRuntime) -> Result<(), Fail> {
     let mut room = Room::new(rt.alloc());
     for text in REFUSED {
-        let Err(memory) = room.read_exact(text.as_bytes()) else {
-            return Err(Fail::from("what is no document is read"));
-        };
-        room = memory;
+        room = room.read_exact(text.as_bytes()).err().ok_or(*text)?;
     }
     Ok(())
 }
+
+const NOT_WHOLE: &[&str] = &["1.0", "[1,1.5]", "-0", "1e2", "18446744073709551616"];
 
 /// A number with a fraction is refused where whole numbers alone are read.
 #[test]
 fn fractions_are_not_whole(rt: HostRuntime) -> Result<(), Fail> {
     let mut room = Room::new(rt.alloc());
-    for text in ["1.0", "[1,1.5]", "-0", "1e2", "18446744073709551616"] {
-        let Err(memory) = room.read(text.as_bytes()) else {
-            return Err(Fail::from("what is no document is read"));
-        };
-        room = memory;
+    for text in NOT_WHOLE {
+        room = room.read(text.as_bytes()).err().ok_or(*text)?;
     }
     Ok(())
 }

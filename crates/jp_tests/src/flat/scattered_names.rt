@@ -1,26 +1,45 @@
 //! Objects whose names come in any order, up to many of them.
 
-use jp_flat::flat_document;
-use jp_lent::value_text;
+use crate::flat::documents::assert_printed;
 use std::alloc::{AllocError, Global};
+use std::process::Abort;
 use std::test::Fail;
 
+/// Adds a name with a number of three digits or more between two texts.
+fn push_numbered(
+    names: &mut Vec<String>,
+    alloc: Global,
+    (front, back): (&str, &str),
+    number: u32,
+) -> Result<(), AllocError> {
+    let name = format!(in alloc; "{front}{number:03}{back}")?;
+    Ok(names.push(name)?)
+}
+
 /// Names that rise, by the number between two texts.
-fn numbered(alloc: Global, front: &str, back: &str, count: u32) -> Result<Vec<String>, AllocError> {
+fn numbered(alloc: Global, pieces: (&str, &str), count: u32) -> Result<Vec<String>, AllocError> {
     let mut names = Vec::new(alloc);
     for number in 0..count {
-        names.push(format!(in alloc; "{front}{number:03}{back}")?)?;
+        push_numbered(&mut names, alloc, pieces, number)?;
     }
     Ok(names)
 }
 
+/// Adds a name that is a text so many times.
+fn push_lengthened(
+    names: &mut Vec<String>,
+    alloc: Global,
+    piece: &str,
+    length: usize,
+) -> Result<(), AllocError> {
+    Ok(names.push(piece.repeat(alloc, length)?)?)
+}
+
 /// Names that rise, each with the text once more than the one before.
-fn lengthened(alloc: Global, text: &str, count: u32) -> Result<Vec<String>, AllocError> {
+fn lengthened(alloc: Global, piece: &str, count: u32) -> Result<Vec<String>, AllocError> {
     let mut names = Vec::new(alloc);
-    let mut name = String::new(alloc);
-    for _ in 0..count {
-        names.push(name.clone()?)?;
-        name.push_str(text)?;
+    for length in 0..count {
+        push_lengthened(&mut names, alloc, piece, length as usize)?;
     }
     Ok(names)
 }
@@ -42,49 +61,95 @@ fn push_members(
     Ok(())
 }
 
-/// What is printed of an object of these members, which is read from their names in another order, and
-/// then with each of them twice.
-fn printed(alloc: Global, names: &[String], twice: bool) -> Result<Option<String>, AllocError> {
-    let mut text = String::from_str(alloc, "{")?;
+/// Appends an object of these members in another order, where it is said with each of them twice.
+fn push_shuffled(text: &mut String, names: &[String], twice: bool) -> Result<(), AllocError> {
+    text.push('{')?;
     if twice {
-        push_members(&mut text, names, 11, Some(7000))?;
+        push_members(text, names, 11, Some(7000))?;
     }
-    push_members(&mut text, names, 37, None)?;
-    text.push('}')?;
-    match flat_document(alloc, text.as_bytes()) {
-        Some(flat) => Ok(Some(value_text(alloc, flat.value())?)),
-        None => Ok(None),
-    }
+    push_members(text, names, 37, None)?;
+    text.push('}')
+}
+
+/// Appends an object of these members in the order of their names.
+fn push_rising(text: &mut String, names: &[String]) -> Result<(), AllocError> {
+    text.push('{')?;
+    push_members(text, names, 1, None)?;
+    text.push('}')
+}
+
+/// Asserts that an object of these members is printed in the order of their names.
+fn assert_in_order(
+    rt: &impl Abort,
+    alloc: Global,
+    names: &[String],
+    twice: bool,
+) -> Result<(), AllocError> {
+    let mut text = String::new(alloc);
+    push_shuffled(&mut text, names, twice)?;
+    let mut wanted = String::new(alloc);
+    push_rising(&mut wanted, names)?;
+    assert_printed(rt, alloc, text.as_str(), wanted.as_str())
 }
 
 /// Neither 11 nor 37 divides one of these counts, so each name has its turn.
-const COUNTS: [u32; 14] = [2, 3, 5, 8, 15, 16, 17, 32, 40, 63, 64, 65, 100, 300];
+const COUNTS: &[u32] = &[2, 3, 5, 8, 15, 16, 17, 32, 40, 63, 64, 65, 100, 300];
+
+/// What stands before a number and behind it.
+const NUMBERED: &[(&str, &str)] = &[
+    ("", ""),
+    ("1234567", ""),
+    ("12345678", ""),
+    ("123456789", ""),
+    ("123456789012345", ""),
+    ("1234567890123456", ""),
+    ("12345678901234567", ""),
+    ("", "a name of more than eight bytes"),
+    ("é€😀", "\u{10FFFF}"),
+];
+
+/// Asserts so of so many names with numbers.
+fn assert_numbered(
+    rt: &impl Abort,
+    alloc: Global,
+    pieces: (&str, &str),
+    count: u32,
+) -> Result<(), AllocError> {
+    let names = numbered(alloc, pieces, count)?;
+    assert_in_order(rt, alloc, &names, false)?;
+    assert_in_order(rt, alloc, &names, true)
+}
 
 #[test]
-fn names_in_any_order(rt: HostRuntime) -> Result<(), Fail> {
-    let alloc = rt.alloc();
-    for count in COUNTS {
-        for names in [
-            numbered(alloc, "", "", count)?,
-            numbered(alloc, "1234567", "", count)?,
-            numbered(alloc, "12345678", "", count)?,
-            numbered(alloc, "123456789", "", count)?,
-            numbered(alloc, "123456789012345", "", count)?,
-            numbered(alloc, "1234567890123456", "", count)?,
-            numbered(alloc, "12345678901234567", "", count)?,
-            numbered(alloc, "", "a name of more than eight bytes", count)?,
-            numbered(alloc, "é€😀", "\u{10FFFF}", count)?,
-            lengthened(alloc, "a", count)?,
-            lengthened(alloc, "\\u0000", count)?,
-            lengthened(alloc, "\u{10FFFF}", count)?,
-        ] {
-            let mut wanted = String::from_str(alloc, "{")?;
-            push_members(&mut wanted, &names, 1, None)?;
-            wanted.push('}')?;
-            for twice in [false, true] {
-                let text = printed(alloc, &names, twice)?;
-                assert_eq!(rt; text.as_deref(), Some(wanted.as_str()));
-            }
+fn names_with_numbers_in_any_order(rt: HostRuntime) -> Result<(), Fail> {
+    for pieces in NUMBERED {
+        for count in COUNTS {
+            assert_numbered(&rt, rt.alloc(), *pieces, *count)?;
+        }
+    }
+    Ok(())
+}
+
+/// What stands in a name again and again.
+const LENGTHENED: &[&str] = &["a", "\\u0000", "\u{10FFFF}"];
+
+/// Asserts so of so many names that grow.
+fn assert_lengthened(
+    rt: &impl Abort,
+    alloc: Global,
+    piece: &str,
+    count: u32,
+) -> Result<(), AllocError> {
+    let names = lengthened(alloc, piece, count)?;
+    assert_in_order(rt, alloc, &names, false)?;
+    assert_in_order(rt, alloc, &names, true)
+}
+
+#[test]
+fn names_that_grow_in_any_order(rt: HostRuntime) -> Result<(), Fail> {
+    for piece in LENGTHENED {
+        for count in COUNTS {
+            assert_lengthened(&rt, rt.alloc(), piece, *count)?;
         }
     }
     Ok(())

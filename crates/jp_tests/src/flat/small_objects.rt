@@ -1,11 +1,11 @@
 //! Objects of few members whose names come in any order.
 
-use crate::flat::documents::flat_text;
+use crate::flat::documents::assert_all_printed;
 use std::test::Fail;
 
 /// Documents, and how they are printed: each object in the order of its names, each name once, with the
 /// value that came last.
-const ROWS: [(&str, &str); 28] = [
+const ROWS: &[(&str, &str)] = &[
     // falling
     (r#"{"b":1,"a":2}"#, r#"{"a":2,"b":1}"#),
     (r#"{"c":1,"b":2,"a":3}"#, r#"{"a":3,"b":2,"c":1}"#),
@@ -83,9 +83,5 @@ const ROWS: [(&str, &str); 28] = [
 
 #[test]
 fn few_names_in_any_order(rt: HostRuntime) -> Result<(), Fail> {
-    for (text, wanted) in ROWS {
-        let flat = flat_text(rt.alloc(), text)?;
-        assert_eq!(rt; flat.as_deref(), Some(wanted), "{text}");
-    }
-    Ok(())
+    Ok(assert_all_printed(&rt, rt.alloc(), ROWS)?)
 }
