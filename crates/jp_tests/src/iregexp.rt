@@ -2,7 +2,6 @@
 
 use jp_iregexp::{CharClass, Pattern, read_pattern};
 use std::alloc::Global;
-use std::process::Abort;
 
 mod categories;
 mod conforming;
@@ -24,10 +23,10 @@ fn only_class(pattern: &Pattern) -> Option<&CharClass> {
     }
 }
 
-/// The text is a class that holds the first character and not the second.
-fn assert_holds(rt: &impl Abort, alloc: Global, text: &str, held: char, other: char) {
-    let pattern = read_pattern(alloc, text).expect(rt, "a pattern");
-    let class = only_class(&pattern).expect(rt, "a class");
-    assert!(rt; class.holds(held), "{text} holds {held:?}");
-    assert!(rt; !class.holds(other), "{text} does not hold {other:?}");
+/// Whether a text, which is a class, holds a character; None where it is none.
+fn holds(alloc: Global, text: &str, character: char) -> Option<bool> {
+    match read_pattern(alloc, text) {
+        Ok(pattern) => Some(only_class(&pattern)?.holds(character)),
+        Err(_) => None,
+    }
 }

@@ -1,55 +1,48 @@
 //! Texts that are normalized paths or none.
 
 use jp_document::{OwnedStep, PathFault, Step, path_text, push_step, quote, read_path};
-use std::alloc::Global;
+use std::alloc::{AllocError, Global};
+use std::process::Abort;
 use std::test::Fail;
 
-/// Whether a path leads to the members of these names, one in another.
-fn has_names(alloc: Global, path: &str, names: &[&str]) -> Result<bool, Fail> {
-    let location = read_path(alloc, path)?;
-    let mut is_same = location.steps().len() == names.len();
-    for (step, name) in location.steps().iter().zip(names) {
-        is_same = is_same && matches!(step, OwnedStep::Name(text) if text.as_str() == *name);
-    }
-    Ok(is_same)
-}
+/// Normalized paths, and their steps, each on a line.
+const PATHS: &[(&str, &str)] = &[
+    ("$", ""),
+    ("$['']", "name \n"),
+    ("$['a']['b']", "name a\nname b\n"),
+    (
+        r"$['\b\t\n\f\r\'\\\u001f\u0000é😀/']",
+        "name \u{8}\t\n\u{c}\r'\\\u{1f}\0é😀/\n",
+    ),
+    ("$['a'][0]", "name a\nindex 0\n"),
+    ("$[9007199254740991]", "index 9007199254740991\n"),
+];
 
-#[test]
-fn names(rt: HostRuntime) -> Result<(), Fail> {
-    let rows: [(&str, &[&str]); 4] = [
-        ("$", &[]),
-        ("$['']", &[""]),
-        ("$['a']['b']", &["a", "b"]),
-        (
-            r"$['\b\t\n\f\r\'\\\u001f\u0000é😀/']",
-            &["\u{8}\t\n\u{c}\r'\\\u{1f}\0é😀/"],
-        ),
-    ];
-    for (path, names) in rows {
-        assert!(rt; has_names(rt.alloc(), path, names)?, "{path}");
+/// Appends steps, each on a line.
+fn push_steps(lines: &mut String, steps: &[OwnedStep]) -> Result<(), AllocError> {
+    for step in steps {
+        match step {
+            OwnedStep::Name(name) => write!(lines, "name {name}\n")?,
+            OwnedStep::Index(index) => write!(lines, "index {index}\n")?,
+        }
     }
     Ok(())
 }
 
-/// The indexes on the way of a path, in which None stands for a name.
-fn indexes_of(alloc: Global, path: &str) -> Result<Vec<Option<u64>>, Fail> {
+/// Asserts the steps of a normalized path.
+fn assert_steps(rt: &impl Abort, alloc: Global, path: &str, wanted: &str) -> Result<(), Fail> {
     let location = read_path(alloc, path)?;
-    let mut indexes = Vec::new(alloc);
-    for step in location.steps() {
-        indexes.push(match step {
-            OwnedStep::Name(_) => None,
-            OwnedStep::Index(index) => Some(*index),
-        })?;
-    }
-    Ok(indexes)
+    let mut lines = String::new(alloc);
+    push_steps(&mut lines, location.steps())?;
+    assert_eq!(rt; lines.as_str(), wanted, "{path}");
+    Ok(())
 }
 
 #[test]
-fn indexes(rt: HostRuntime) -> Result<(), Fail> {
-    let first = indexes_of(rt.alloc(), "$['a'][0]")?;
-    assert_eq!(rt; first.as_slice(), [None, Some(0)].as_slice());
-    let largest = indexes_of(rt.alloc(), "$[9007199254740991]")?;
-    assert_eq!(rt; largest.as_slice(), [Some(9007199254740991)].as_slice());
+fn steps(rt: HostRuntime) -> Result<(), Fail> {
+    for (path, wanted) in PATHS {
+        assert_steps(&rt, rt.alloc(), path, wanted)?;
+    }
     Ok(())
 }
 
@@ -78,13 +71,15 @@ fn texts_that_are_no_paths(rt: HostRuntime) {
     }
 }
 
+const LARGE_INDEXES: &[&str] = &["$[9007199254740992]", "$[99999999999999999999]['a'][0]"];
+
 #[test]
 fn paths_with_large_indexes(rt: HostRuntime) {
-    for text in ["$[9007199254740992]", "$[99999999999999999999]['a'][0]"] {
+    for text in LARGE_INDEXES {
         let fault = read_path(rt.alloc(), text).err();
         assert_eq!(rt; fault, Some(PathFault::IndexRange), "{text}");
-        assert_eq!(rt; fault.map(|fault| fault.number()), Some(2));
     }
+    assert_eq!(rt; PathFault::IndexRange.number(), 2);
 }
 
 #[test]
@@ -97,8 +92,14 @@ fn steps_are_spelled_one_after_another(rt: HostRuntime) -> Result<(), Fail> {
 }
 
 #[test]
+fn quotes(rt: HostRuntime) -> Result<(), Fail> {
+    let quoted = quote(rt.alloc(), "'")?;
+    assert_eq!(rt; quoted.as_str(), r"'\''");
+    Ok(())
+}
+
+#[test]
 fn paths(rt: HostRuntime) -> Result<(), Fail> {
-    assert_eq!(rt; quote(rt.alloc(), "'")?.as_str(), r"'\''");
     let path = path_text(rt.alloc(), &[Step::Name("\u{1f}\n'\\"), Step::Index(10)])?;
     assert_eq!(rt; path.as_str(), r"$['\u001f\n\'\\'][10]");
     Ok(())

@@ -1,5 +1,6 @@
 //! Texts between quotes, with a character of each kind at each place of them.
 
+use crate::nested::push_times;
 use jp_document::{push_quote, push_text};
 use std::alloc::{AllocError, Global};
 use std::test::Fail;
@@ -8,7 +9,7 @@ use std::test::Fail;
 /// 9535 section 2.7).
 type Row = (&'static str, &'static str, &'static str);
 
-const ROWS: [Row; 22] = [
+const ROWS: &[Row] = &[
     ("\0", r"\u0000", r"\u0000"),
     ("\u{7}", r"\u0007", r"\u0007"),
     ("\u{8}", r"\b", r"\b"),
@@ -45,14 +46,27 @@ fn push_framed(
     behind: usize,
 ) -> Result<(), AllocError> {
     out.push_str(quote)?;
-    for _ in 0..before {
-        out.push('a')?;
-    }
+    push_times(out, "a", before)?;
     out.push_str(piece)?;
-    for _ in 0..behind {
-        out.push('z')?;
-    }
+    push_times(out, "z", behind)?;
     out.push_str(quote)
+}
+
+/// Appends a text between double quotes and one between single ones.
+fn push_both(out: &mut String, text: &str) -> Result<(), AllocError> {
+    push_text(out, text)?;
+    push_quote(out, text)
+}
+
+/// Appends what `push_both` must for a text with this many letters before a character and behind it.
+fn push_wanted(
+    out: &mut String,
+    row: &Row,
+    before: usize,
+    behind: usize,
+) -> Result<(), AllocError> {
+    push_framed(out, "\"", before, row.1, behind)?;
+    push_framed(out, "'", before, row.2, behind)
 }
 
 /// Whether a text with this many letters before a character and behind it is written as it must be, behind
@@ -61,12 +75,23 @@ fn is_written(alloc: Global, row: &Row, before: usize, behind: usize) -> Result<
     let mut text = String::new(alloc);
     push_framed(&mut text, "", before, row.0, behind)?;
     let mut found = String::from_str(alloc, "[")?;
-    push_text(&mut found, text.as_str())?;
-    push_quote(&mut found, text.as_str())?;
+    push_both(&mut found, text.as_str())?;
     let mut wanted = String::from_str(alloc, "[")?;
-    push_framed(&mut wanted, "\"", before, row.1, behind)?;
-    push_framed(&mut wanted, "'", before, row.2, behind)?;
+    push_wanted(&mut wanted, row, before, behind)?;
     Ok(found.as_str() == wanted.as_str())
+}
+
+/// Appends a piece with letters around it, and then with as many on the other sides, between quotes.
+fn push_twice(
+    out: &mut String,
+    quote: &str,
+    piece: &str,
+    (before, behind): (usize, usize),
+) -> Result<(), AllocError> {
+    out.push_str(quote)?;
+    push_framed(out, "", before, piece, behind)?;
+    push_framed(out, "", behind, piece, before)?;
+    out.push_str(quote)
 }
 
 /// Whether two texts side by side, each with letters around a character, are written as they must be in one.
@@ -77,14 +102,11 @@ fn is_written_twice(
     behind: usize,
 ) -> Result<bool, AllocError> {
     let mut text = String::new(alloc);
-    push_framed(&mut text, "", before, row.0, behind)?;
-    push_framed(&mut text, "", behind, row.0, before)?;
+    push_twice(&mut text, "", row.0, (before, behind))?;
     let mut found = String::new(alloc);
     push_text(&mut found, text.as_str())?;
-    let mut wanted = String::from_str(alloc, "\"")?;
-    push_framed(&mut wanted, "", before, row.1, behind)?;
-    push_framed(&mut wanted, "", behind, row.1, before)?;
-    wanted.push('"')?;
+    let mut wanted = String::new(alloc);
+    push_twice(&mut wanted, "\"", row.1, (before, behind))?;
     Ok(found.as_str() == wanted.as_str())
 }
 
@@ -102,7 +124,7 @@ fn are_written(alloc: Global, row: &Row, before: usize) -> Result<bool, AllocErr
 
 #[test]
 fn texts_with_a_character_at_each_place(rt: HostRuntime) -> Result<(), Fail> {
-    for row in &ROWS {
+    for row in ROWS {
         for before in 0..=MOST {
             assert!(rt; are_written(rt.alloc(), row, before)?, "{before} {}", row.1);
         }
@@ -110,16 +132,21 @@ fn texts_with_a_character_at_each_place(rt: HostRuntime) -> Result<(), Fail> {
     Ok(())
 }
 
+/// Whether a text of so many letters is copied between its quotes.
+fn is_copied(alloc: Global, length: usize) -> Result<bool, AllocError> {
+    let mut text = String::new(alloc);
+    push_framed(&mut text, "", length, "", 0)?;
+    let mut found = String::new(alloc);
+    push_text(&mut found, text.as_str())?;
+    let mut wanted = String::new(alloc);
+    push_framed(&mut wanted, "\"", length, "", 0)?;
+    Ok(found.as_str() == wanted.as_str())
+}
+
 #[test]
 fn texts_that_are_copied(rt: HostRuntime) -> Result<(), Fail> {
-    for length in 0..=40_usize {
-        let mut text = String::new(rt.alloc());
-        push_framed(&mut text, "", length, "", 0)?;
-        let mut found = String::new(rt.alloc());
-        push_text(&mut found, text.as_str())?;
-        let mut wanted = String::new(rt.alloc());
-        push_framed(&mut wanted, "\"", length, "", 0)?;
-        assert_eq!(rt; found.as_str(), wanted.as_str());
+    for length in 0..=40 {
+        assert!(rt; is_copied(rt.alloc(), length)?, "{length}");
     }
     Ok(())
 }

@@ -1,10 +1,10 @@
 //! Characters that the general categories hold.
 
-use super::assert_holds;
+use super::holds;
 
 // A character that each code holds, and one that it does not; of a code of one letter the held one
 // is not of the category that comes first.
-const CATEGORIES: [(&str, char, char); 36] = [
+const CATEGORIES: &[(&str, char, char)] = &[
     (r"\p{L}", 'ʰ', '1'),
     (r"\p{Ll}", 'a', 'A'),
     (r"\p{Lm}", 'ʰ', 'a'),
@@ -46,22 +46,26 @@ const CATEGORIES: [(&str, char, char); 36] = [
 #[test]
 fn holds_each_category(rt: HostRuntime) {
     for (text, held, other) in CATEGORIES {
-        assert_holds(&rt, rt.alloc(), text, held, other);
+        assert_eq!(rt; holds(rt.alloc(), text, *held), Some(true), "{text}");
+        assert_eq!(rt; holds(rt.alloc(), text, *other), Some(false), "{text}");
     }
 }
 
+// A class, a character that it holds, and one that it does not.
+const CLASSES: &[(&str, char, char)] = &[
+    (r"\P{Lu}", 'a', 'A'),
+    (r"[^\p{L}]", '5', 'é'),
+    (r"[^\P{L}]", 'é', '5'),
+    ("[a-c-]", 'c', 'd'),
+    (".", '\u{85}', '\n'),
+    (".", 'é', '\r'),
+    ("^", '^', 'a'),
+];
+
 #[test]
 fn holds_by_class(rt: HostRuntime) {
-    let rows = [
-        (r"\P{Lu}", 'a', 'A'),
-        (r"[^\p{L}]", '5', 'é'),
-        (r"[^\P{L}]", 'é', '5'),
-        ("[a-c-]", 'c', 'd'),
-        (".", '\u{85}', '\n'),
-        (".", 'é', '\r'),
-        ("^", '^', 'a'),
-    ];
-    for (text, held, other) in rows {
-        assert_holds(&rt, rt.alloc(), text, held, other);
+    for (text, held, other) in CLASSES {
+        assert_eq!(rt; holds(rt.alloc(), text, *held), Some(true), "{text}");
+        assert_eq!(rt; holds(rt.alloc(), text, *other), Some(false), "{text}");
     }
 }

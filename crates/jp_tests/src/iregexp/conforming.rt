@@ -1,10 +1,11 @@
 //! Texts that conform to RFC 9485 and to the limits of this crate, and texts that do not.
 
+use crate::nested::nested;
 use jp_iregexp::{PatternFault, read_pattern};
-use std::alloc::{AllocError, Global};
+use std::alloc::Global;
 use std::test::Fail;
 
-const CONFORMING: [&str; 22] = [
+const CONFORMING: &[&str] = &[
     "[-]",
     "[--]",
     "[a-]",
@@ -29,7 +30,7 @@ const CONFORMING: [&str; 22] = [
     r"\n\r\t\(\)\*\+\.\?\[\\\]\{\|\}",
 ];
 
-const NOT_CONFORMING: [&str; 34] = [
+const NOT_CONFORMING: &[&str] = &[
     "[]",
     "[^]",
     "[a-b-c]",
@@ -66,35 +67,36 @@ const NOT_CONFORMING: [&str; 34] = [
     "a{1,1000000000}",
 ];
 
+/// Whether a text conforms, None where the memory does not suffice to tell it.
+pub(crate) fn conforms(alloc: Global, text: &str) -> Option<bool> {
+    match read_pattern(alloc, text) {
+        Ok(_) => Some(true),
+        Err(PatternFault::NotConforming) => Some(false),
+        Err(PatternFault::NoMemory) => None,
+    }
+}
+
 #[test]
 fn reads_what_conforms(rt: HostRuntime) {
     for text in CONFORMING {
-        assert!(rt; read_pattern(rt.alloc(), text).is_ok(), "{text}");
+        assert_eq!(rt; conforms(rt.alloc(), text), Some(true), "{text}");
     }
 }
 
 #[test]
 fn refuses_what_does_not(rt: HostRuntime) {
     for text in NOT_CONFORMING {
-        let fault = read_pattern(rt.alloc(), text).err();
-        assert_eq!(rt; fault, Some(PatternFault::NotConforming), "{text}");
+        assert_eq!(rt; conforms(rt.alloc(), text), Some(false), "{text}");
     }
     assert_eq!(rt; PatternFault::NotConforming.number(), 1);
     assert_eq!(rt; PatternFault::NoMemory.number(), 2);
 }
 
-/// A group in a group, so many in all.
-fn groups(alloc: Global, count: usize) -> Result<String, AllocError> {
-    let (opened, closed) = ("(".repeat(alloc, count)?, ")".repeat(alloc, count)?);
-    format!(in alloc; "{opened}a{closed}")
-}
-
 #[test]
 fn reads_64_groups_and_not_65(rt: HostRuntime) -> Result<(), Fail> {
-    for (count, conforms) in [(64, true), (65, false)] {
-        let text = groups(rt.alloc(), count)?;
-        let is_read = read_pattern(rt.alloc(), text.as_str()).is_ok();
-        assert_eq!(rt; is_read, conforms, "{count}");
-    }
+    let most = nested(rt.alloc(), ("(", "a", ")"), 64)?;
+    assert_eq!(rt; conforms(rt.alloc(), most.as_str()), Some(true));
+    let more = nested(rt.alloc(), ("(", "a", ")"), 65)?;
+    assert_eq!(rt; conforms(rt.alloc(), more.as_str()), Some(false));
     Ok(())
 }

@@ -1,10 +1,11 @@
 //! The trees that texts spell.
 
 use jp_iregexp::read_pattern;
+use std::alloc::Global;
 use std::test::Fail;
 
 // A pattern, and its tree as `Debug` writes it.
-const TREES: [(&str, &str); 11] = [
+const TREES: &[(&str, &str)] = &[
     ("", "Either([Sequence([])])"),
     (
         "a|",
@@ -63,11 +64,17 @@ const TREES: [(&str, &str); 11] = [
     ),
 ];
 
+/// The tree of a pattern as `Debug` writes it.
+fn tree_of(alloc: Global, text: &str) -> Result<String, Fail> {
+    let pattern = read_pattern(alloc, text)?;
+    Ok(format!(in alloc; "{pattern:?}")?)
+}
+
 #[test]
 fn gives_trees(rt: HostRuntime) -> Result<(), Fail> {
     for (text, tree) in TREES {
-        let pattern = read_pattern(rt.alloc(), text)?;
-        assert_eq!(rt; format!(in rt.alloc(); "{pattern:?}")?.as_str(), tree);
+        let found = tree_of(rt.alloc(), text)?;
+        assert_eq!(rt; found.as_str(), *tree, "{text}");
     }
     Ok(())
 }
