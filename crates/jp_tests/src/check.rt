@@ -4,159 +4,168 @@
 use jp_check::Profile::{Extended, Standard};
 use jp_check::{Checked, Function, Profile, check, read_filter, read_query};
 use jp_query::{RefusalKind, parse};
-use std::alloc::Global;
+use std::alloc::{AllocError, Global};
 use std::process::Abort;
 use std::test::Fail;
 
-#[test]
-fn queries_without_faults_are_accepted(rt: HostRuntime) -> Result<(), Fail> {
-    let alloc = rt.alloc();
-    let read = read_query(alloc, "$[9007199254740991]", Standard)
-        .ok()
-        .ok_or("refused")?;
-    assert_indexes(&rt, alloc, &read, 9007199254740991)?;
-    assert_eq!(rt; read.profile(), Standard);
-    let parsed = parse(alloc, "$[-9007199254740991]").ok().ok_or("refused")?;
-    let checked = check(parsed, Extended).ok().ok_or("refused")?;
-    assert_indexes(&rt, alloc, &checked, -9007199254740991)?;
-    assert_eq!(rt; checked.profile(), Extended);
-    Ok(())
-}
+/// Queries of one index, as `Debug` writes them.
+const LARGEST: &str = "Query { absolute: true, segments: [\
+    Segment { descendant: false, selectors: [Index(Whole(9007199254740991))] }] }";
 
-/// Asserts that a query has one segment, with that index.
-fn assert_indexes(
+const SMALLEST: &str = "Query { absolute: true, segments: [\
+    Segment { descendant: false, selectors: [Index(Whole(-9007199254740991))] }] }";
+
+/// Asserts the tree of a query, and its profile.
+fn assert_checked(
     rt: &impl Abort,
     alloc: Global,
     checked: &Checked,
-    index: i64,
-) -> Result<(), Fail> {
-    let segment = format!(in alloc;
-        "Segment {{ descendant: false, selectors: [Index(Whole({index}))] }}"
-    )?;
+    tree: &str,
+    profile: Profile,
+) -> Result<(), AllocError> {
+    assert_eq!(rt; checked.profile(), profile);
     let query = checked.query();
-    assert_eq!(rt;
-        format!(in alloc; "{query:?}")?,
-        format!(in alloc; "Query {{ absolute: true, segments: [{segment}] }}")?
-    );
+    let written = format!(in alloc; "{query:?}")?;
+    assert_eq!(rt; written.as_str(), tree);
     Ok(())
 }
 
-/// Asserts that `read_query` refuses the text in that kind at that byte, or accepts it.
-fn assert_reads(
-    rt: &impl Abort,
-    alloc: Global,
-    text: &str,
-    profile: Profile,
-    refused: Option<(RefusalKind, usize)>,
-) {
-    let answer = match read_query(alloc, text, profile) {
+#[test]
+fn a_query_without_faults_is_read(rt: HostRuntime) -> Result<(), Fail> {
+    let read = read_query(rt.alloc(), "$[9007199254740991]", Standard)?;
+    Ok(assert_checked(&rt, rt.alloc(), &read, LARGEST, Standard)?)
+}
+
+#[test]
+fn a_query_without_faults_is_accepted(rt: HostRuntime) -> Result<(), Fail> {
+    let parsed = parse(rt.alloc(), "$[-9007199254740991]")?;
+    let checked = check(parsed, Extended)?;
+    Ok(assert_checked(&rt, rt.alloc(), &checked, SMALLEST, Extended)?)
+}
+
+/// A kind of refusals and the byte that is refused, if one is.
+type Refused = Option<(RefusalKind, usize)>;
+
+/// How `read_query` refuses a text.
+fn refused(alloc: Global, text: &str, profile: Profile) -> Refused {
+    match read_query(alloc, text, profile) {
         Ok(_) => None,
         Err(refusal) => Some((refusal.kind, refusal.place)),
-    };
-    assert_eq!(rt; answer, refused, "{text} {profile:?}");
+    }
 }
 
 #[test]
 fn texts_are_refused_with_their_first_faults(rt: HostRuntime) {
-    for (text, kind) in [
-        ("$[?length()==1.5]", RefusalKind::ArgumentCount),
-        ("$[?2.5==@.*]", RefusalKind::NotWhole),
-    ] {
-        assert_reads(&rt, rt.alloc(), text, Standard, Some((kind, 3)));
-    }
+    let count = refused(rt.alloc(), "$[?length()==1.5]", Standard);
+    assert_eq!(rt; count, Some((RefusalKind::ArgumentCount, 3)));
+    let fraction = refused(rt.alloc(), "$[?2.5==@.*]", Standard);
+    assert_eq!(rt; fraction, Some((RefusalKind::NotWhole, 3)));
 }
+
+/// Queries with `distinct`, how `Extended` refuses them, and where `Standard` does, which does not know it.
+const DISTINCT: &[(&str, Refused, usize)] = &[
+    ("$[?count(distinct(@['a','a']))==1]", None, 9),
+    ("$[?value(distinct(@['a','a']))==0]", None, 9),
+    ("$[?count(distinct(@[*]))==2]", None, 9),
+    ("$[?distinct(@.*)]", None, 3),
+    ("$[?!distinct(distinct(@.a))]", None, 4),
+    ("$[?distinct(@)==1]", Some((RefusalKind::IllTyped, 3)), 3),
+    ("$[?distinct(1)]", Some((RefusalKind::IllTyped, 12)), 3),
+    ("$[?distinct()]", Some((RefusalKind::ArgumentCount, 3)), 3),
+    (
+        "$[?length(distinct(@))==1]",
+        Some((RefusalKind::IllTyped, 10)),
+        10,
+    ),
+    (
+        "$[?match(distinct(@),'a')]",
+        Some((RefusalKind::IllTyped, 9)),
+        9,
+    ),
+    (
+        "$[?count(distinct(value(@.a)))==1]",
+        Some((RefusalKind::IllTyped, 18)),
+        9,
+    ),
+    (
+        "$[?count(distinct(foo(1)))==1]",
+        Some((RefusalKind::UnknownFunction, 18)),
+        9,
+    ),
+];
 
 #[test]
 fn distinct_is_a_function_of_extended(rt: HostRuntime) {
-    let alloc = rt.alloc();
-    for (text, extended, unknown_at) in [
-        ("$[?count(distinct(@['a','a']))==1]", None, 9),
-        ("$[?value(distinct(@['a','a']))==0]", None, 9),
-        ("$[?count(distinct(@[*]))==2]", None, 9),
-        ("$[?distinct(@.*)]", None, 3),
-        ("$[?!distinct(distinct(@.a))]", None, 4),
-        ("$[?distinct(@)==1]", Some((RefusalKind::IllTyped, 3)), 3),
-        ("$[?distinct(1)]", Some((RefusalKind::IllTyped, 12)), 3),
-        ("$[?distinct()]", Some((RefusalKind::ArgumentCount, 3)), 3),
-        (
-            "$[?length(distinct(@))==1]",
-            Some((RefusalKind::IllTyped, 10)),
-            10,
-        ),
-        (
-            "$[?match(distinct(@),'a')]",
-            Some((RefusalKind::IllTyped, 9)),
-            9,
-        ),
-        (
-            "$[?count(distinct(value(@.a)))==1]",
-            Some((RefusalKind::IllTyped, 18)),
-            9,
-        ),
-        (
-            "$[?count(distinct(foo(1)))==1]",
-            Some((RefusalKind::UnknownFunction, 18)),
-            9,
-        ),
-    ] {
-        let unknown = Some((RefusalKind::UnknownFunction, unknown_at));
-        assert_reads(&rt, alloc, text, Extended, extended);
-        assert_reads(&rt, alloc, text, Standard, unknown);
+    for (text, extended, unknown_at) in DISTINCT {
+        let unknown = Some((RefusalKind::UnknownFunction, *unknown_at));
+        assert_eq!(rt; refused(rt.alloc(), text, Extended), *extended, "{text}");
+        assert_eq!(rt; refused(rt.alloc(), text, Standard), unknown, "{text}");
     }
-    for profile in [Standard, Extended] {
-        assert_reads(&rt, alloc, "$[?value(@['a','a'])==0]", profile, None);
-    }
+    let value = "$[?value(@['a','a'])==0]";
+    assert_eq!(rt; refused(rt.alloc(), value, Standard), None);
+    assert_eq!(rt; refused(rt.alloc(), value, Extended), None);
 }
 
+/// Names, and the functions of both profiles that have them.
+const FUNCTIONS: &[(&str, Option<Function>)] = &[
+    ("length", Some(Function::Length)),
+    ("count", Some(Function::Count)),
+    ("match", Some(Function::Match)),
+    ("search", Some(Function::Search)),
+    ("value", Some(Function::ValueOf)),
+    ("", None),
+    ("Length", None),
+    ("counts", None),
+    ("Distinct", None),
+];
+
 #[test]
-fn functions_are_known_by_their_names(rt: HostRuntime) -> Result<(), Fail> {
-    let rows = [
-        ("length", Some(Function::Length)),
-        ("count", Some(Function::Count)),
-        ("match", Some(Function::Match)),
-        ("search", Some(Function::Search)),
-        ("value", Some(Function::ValueOf)),
-        ("", None),
-        ("Length", None),
-        ("counts", None),
-        ("Distinct", None),
-    ];
-    for (name, function) in rows {
-        assert!(rt; Standard.function_named(name) == function, "{name:?}");
-        assert!(rt; Extended.function_named(name) == function, "{name:?}");
+fn functions_are_known_by_their_names(rt: HostRuntime) {
+    for (name, function) in FUNCTIONS {
+        assert!(rt; Standard.function_named(name) == *function, "{name:?}");
+        assert!(rt; Extended.function_named(name) == *function, "{name:?}");
     }
     assert!(rt; Standard.function_named("distinct") == None);
     assert!(rt; Extended.function_named("distinct") == Some(Function::Distinct));
-    Ok(())
 }
 
 #[test]
 fn expressions_of_filters_are_read_alone(rt: HostRuntime) -> Result<(), Fail> {
-    let alloc = rt.alloc();
-    let filter = read_filter(alloc, " @.a == 1 || $.b ", Extended)
-        .ok()
-        .ok_or("refused")?;
+    let filter = read_filter(rt.alloc(), " @.a == 1 || $.b ", Extended)?;
     assert_eq!(rt; filter.profile(), Extended);
     let expr = filter.expr();
-    assert!(rt; format!(in alloc; "{expr:?}")?.starts_with("AnyOf([Compare"));
-    for (text, kind, place) in [
-        ("@.a, @.b", RefusalKind::Syntax, 3),
-        ("@.a == 1.5", RefusalKind::NotWhole, 7),
-        ("@.* == 1", RefusalKind::NotSingular, 0),
-        ("@.a && distinct(@)", RefusalKind::UnknownFunction, 7),
-    ] {
-        let refused = match read_filter(alloc, text, Standard) {
-            Ok(_) => None,
-            Err(refusal) => Some((refusal.kind, refusal.place)),
-        };
-        assert_eq!(rt; refused, Some((kind, place)), "{text}");
-    }
+    let written = format!(in rt.alloc(); "{expr:?}")?;
+    assert!(rt; written.starts_with("AnyOf([Compare"));
     Ok(())
+}
+
+/// Expressions of filters, and how they are refused.
+const REFUSED_FILTERS: &[(&str, RefusalKind, usize)] = &[
+    ("@.a, @.b", RefusalKind::Syntax, 3),
+    ("@.a == 1.5", RefusalKind::NotWhole, 7),
+    ("@.* == 1", RefusalKind::NotSingular, 0),
+    ("@.a && distinct(@)", RefusalKind::UnknownFunction, 7),
+];
+
+/// How `read_filter` refuses a text.
+fn refused_filter(alloc: Global, text: &str) -> Refused {
+    match read_filter(alloc, text, Standard) {
+        Ok(_) => None,
+        Err(refusal) => Some((refusal.kind, refusal.place)),
+    }
+}
+
+#[test]
+fn expressions_of_filters_are_refused(rt: HostRuntime) {
+    for (text, kind, place) in REFUSED_FILTERS {
+        let wanted = Some((*kind, *place));
+        assert_eq!(rt; refused_filter(rt.alloc(), text), wanted, "{text}");
+    }
 }
 
 /// Queries; whether an absolute query in a filter is answered once, and whether a query in one may come to a
 /// value by several ways.
-const NEEDS: [(&str, bool, bool); 14] = [
+const NEEDS: &[(&str, bool, bool)] = &[
     ("$..a..b", false, false),
     ("$[?@.a]", false, false),
     ("$[?@..a]", false, false),
@@ -173,17 +182,32 @@ const NEEDS: [(&str, bool, bool); 14] = [
     ("$..a[?@.b[?$.*[?@.*..a..b]]]", true, true),
 ];
 
+/// Asserts the needs of a query.
+fn assert_needs(
+    rt: &impl Abort,
+    alloc: Global,
+    text: &str,
+    wanted: (bool, bool),
+) -> Result<(), Fail> {
+    let query = read_query(alloc, text, Standard)?;
+    let needs = query.needs();
+    assert_eq!(rt; (needs.answers, needs.ways), wanted, "{text}");
+    Ok(())
+}
+
+#[test]
+fn needs_of_queries(rt: HostRuntime) -> Result<(), Fail> {
+    for (text, answers, ways) in NEEDS {
+        assert_needs(&rt, rt.alloc(), text, (*answers, *ways))?;
+    }
+    Ok(())
+}
+
 #[test]
 fn needs_of_filters(rt: HostRuntime) -> Result<(), Fail> {
-    let alloc = rt.alloc();
-    for (text, answers, ways) in NEEDS {
-        let query = read_query(alloc, text, Standard).ok().ok_or("refused")?;
-        let needs = query.needs();
-        assert_eq!(rt; (needs.answers, needs.ways), (answers, ways), "{text}");
-    }
-    for (text, ways) in [("@.a..b", false), ("@..a..b", true)] {
-        let filter = read_filter(alloc, text, Standard).ok().ok_or("refused")?;
-        assert_eq!(rt; filter.needs().ways, ways, "{text}");
-    }
+    let one_way = read_filter(rt.alloc(), "@.a..b", Standard)?;
+    assert!(rt; !one_way.needs().ways);
+    let ways = read_filter(rt.alloc(), "@..a..b", Standard)?;
+    assert!(rt; ways.needs().ways);
     Ok(())
 }

@@ -1,22 +1,32 @@
 //! Documents whose numbers are exact decimals. The values are those that RFC 8259 sections 4 and 6 give the
 //! texts, by arithmetic, and numbers are written in the layout of RFC 8785 section 3.2.2.3.
 
+use crate::nested::{nested, push_times};
 use jp_document::{DocumentFault, Json};
 use jp_exact::exact_value;
 use jp_lent::value_text;
 use std::alloc::{AllocError, Global};
+use std::process::Abort;
 use std::test::Fail;
 
 /// The value of a text, as it is written, else what is wrong with the text, as the fault says it.
 fn told(alloc: Global, bytes: &[u8]) -> Result<String, AllocError> {
     match exact_value(alloc, bytes) {
         Ok(json) => value_text(alloc, &json),
-        Err(fault) => {
-            let mut text = String::new(alloc);
-            write!(text, "{fault}")?;
-            Ok(text)
-        }
+        Err(fault) => format!(in alloc; "{fault}"),
     }
+}
+
+/// Asserts the value of a text, or what is wrong with it.
+fn assert_told(
+    rt: &impl Abort,
+    alloc: Global,
+    bytes: &[u8],
+    wanted: &str,
+) -> Result<(), AllocError> {
+    let told = told(alloc, bytes)?;
+    assert_eq!(rt; told.as_str(), wanted);
+    Ok(())
 }
 
 /// Texts, and their values.
@@ -69,36 +79,47 @@ const DOCUMENTS: &[(&str, &str)] = &[
 #[test]
 fn documents(rt: HostRuntime) -> Result<(), Fail> {
     for (text, value) in DOCUMENTS {
-        let told = told(rt.alloc(), text.as_bytes())?;
-        assert_eq!(rt; told.as_str(), *value, "{text}");
+        assert_told(&rt, rt.alloc(), text.as_bytes(), value)?;
     }
     Ok(())
 }
 
-/// Texts that are JSON, and the path of the first number that can't be held.
+/// Texts that are JSON, and what is said of them: the path of the first number that can't be held.
 const OUT_OF_RANGE: &[(&str, &str)] = &[
-    ("123456789012345678901234567890123456789", "$"),
-    ("1.23456789012345678901234567890123456789", "$"),
-    ("1e1000001", "$"),
-    ("100e999999", "$"),
-    ("1e-1000001", "$"),
-    ("-1e999999999999", "$"),
-    ("[1,2.5,1e9999999,1e9999999]", "$[2]"),
-    (r#"[0,{"x":[1,{"y":1e9999999}]}]"#, "$[1]['x'][1]['y']"),
-    (r#"{"b":[1,1e9999999],"a":1e9999999}"#, "$['a']"),
-    (r#"{"b":[1,1e9999999],"a":2}"#, "$['b'][1]"),
-    (r#"{"a":2,"a":1e9999999}"#, "$['a']"),
-    (r#"{"a":1e9999999,"b":1e9999999,"a":2}"#, "$['b']"),
-    (r#"{"'\n":1e9999999}"#, r"$['\'\n']"),
+    (
+        "123456789012345678901234567890123456789",
+        "NumberRange at $",
+    ),
+    (
+        "1.23456789012345678901234567890123456789",
+        "NumberRange at $",
+    ),
+    ("1e1000001", "NumberRange at $"),
+    ("100e999999", "NumberRange at $"),
+    ("1e-1000001", "NumberRange at $"),
+    ("-1e999999999999", "NumberRange at $"),
+    ("[1,2.5,1e9999999,1e9999999]", "NumberRange at $[2]"),
+    (
+        r#"[0,{"x":[1,{"y":1e9999999}]}]"#,
+        "NumberRange at $[1]['x'][1]['y']",
+    ),
+    (
+        r#"{"b":[1,1e9999999],"a":1e9999999}"#,
+        "NumberRange at $['a']",
+    ),
+    (r#"{"b":[1,1e9999999],"a":2}"#, "NumberRange at $['b'][1]"),
+    (r#"{"a":2,"a":1e9999999}"#, "NumberRange at $['a']"),
+    (
+        r#"{"a":1e9999999,"b":1e9999999,"a":2}"#,
+        "NumberRange at $['b']",
+    ),
+    (r#"{"'\n":1e9999999}"#, r"NumberRange at $['\'\n']"),
 ];
 
 #[test]
 fn numbers_out_of_range(rt: HostRuntime) -> Result<(), Fail> {
-    for (text, path) in OUT_OF_RANGE {
-        let Err(DocumentFault::NumberRange(found)) = exact_value(rt.alloc(), text.as_bytes()) else {
-            return Err(Fail::from("a number out of range is not told"));
-        };
-        assert_eq!(rt; found.as_str(), *path, "{text}");
+    for (text, fault) in OUT_OF_RANGE {
+        assert_told(&rt, rt.alloc(), text.as_bytes(), fault)?;
     }
     Ok(())
 }
@@ -125,105 +146,94 @@ const NOT_JSON: &[&str] = &[
 ];
 
 #[test]
-fn no_json_texts(rt: HostRuntime) {
+fn no_json_texts(rt: HostRuntime) -> Result<(), Fail> {
     for text in NOT_JSON {
-        let fault = exact_value(rt.alloc(), text.as_bytes()).err();
-        assert_eq!(rt; fault, Some(DocumentFault::NotJson), "{text}");
+        assert_told(&rt, rt.alloc(), text.as_bytes(), "NotJson")?;
     }
-    let bytes: [&[u8]; 3] = [b"\"\xff\"", b"\"\xc0\x80\"", b"\"\xed\xa0\x80\""];
-    for text in bytes {
-        let fault = exact_value(rt.alloc(), text).err();
-        assert_eq!(rt; fault, Some(DocumentFault::NotJson));
-    }
+    Ok(())
 }
 
-/// So many lists in one another.
-fn nested(alloc: Global, levels: usize) -> Result<String, AllocError> {
-    let mut text = repeated(alloc, "", '[', levels)?;
-    for _ in 0..levels {
-        text.push(']')?;
-    }
-    Ok(text)
-}
-
-/// A text, and behind it so many of one character.
-fn repeated(alloc: Global, front: &str, last: char, count: usize) -> Result<String, AllocError> {
-    let mut text = String::from_str(alloc, front)?;
-    for _ in 0..count {
-        text.push(last)?;
-    }
-    Ok(text)
+#[test]
+fn no_unicode_texts(rt: HostRuntime) -> Result<(), Fail> {
+    assert_told(&rt, rt.alloc(), b"\"\xff\"", "NotJson")?;
+    assert_told(&rt, rt.alloc(), b"\"\xc0\x80\"", "NotJson")?;
+    Ok(assert_told(&rt, rt.alloc(), b"\"\xed\xa0\x80\"", "NotJson")?)
 }
 
 #[test]
 fn levels(rt: HostRuntime) -> Result<(), Fail> {
-    let deepest = nested(rt.alloc(), 127)?;
-    let told = told(rt.alloc(), deepest.as_bytes())?;
-    assert_eq!(rt; told.as_str(), deepest.as_str());
-    let deeper = nested(rt.alloc(), 128)?;
-    let fault = exact_value(rt.alloc(), deeper.as_bytes()).err();
-    assert_eq!(rt; fault, Some(DocumentFault::NotJson));
-    Ok(())
+    let deepest = nested(rt.alloc(), ("[", "", "]"), 127)?;
+    assert_told(&rt, rt.alloc(), deepest.as_bytes(), deepest.as_str())?;
+    let deeper = nested(rt.alloc(), ("[", "", "]"), 128)?;
+    Ok(assert_told(&rt, rt.alloc(), deeper.as_bytes(), "NotJson")?)
 }
+
+/// A text and a digit that stands so often behind it, and the value of both.
+const LONG: &[(&str, &str, usize, &str)] = &[
+    ("1", "0", 1_000_000, "1e+1000000"),
+    ("1", "0", 1_000_001, "NumberRange at $"),
+    ("-0.", "0", 1_000_000, "0"),
+    ("1", "1", 1_000_000, "NumberRange at $"),
+    ("1e", "9", 1_000_000, "NumberRange at $"),
+    ("0e", "9", 1_000_000, "0"),
+];
 
 #[test]
 fn long_numbers(rt: HostRuntime) -> Result<(), Fail> {
-    let rows = [
-        ("1", '0', 1_000_000, "1e+1000000"),
-        ("1", '0', 1_000_001, "NumberRange at $"),
-        ("-0.", '0', 1_000_000, "0"),
-        ("1", '1', 1_000_000, "NumberRange at $"),
-        ("1e", '9', 1_000_000, "NumberRange at $"),
-        ("0e", '9', 1_000_000, "0"),
-    ];
-    for (front, last, count, expected) in rows {
-        let text = repeated(rt.alloc(), front, last, count)?;
-        let told = told(rt.alloc(), text.as_bytes())?;
-        assert_eq!(rt; told.as_str(), expected, "{front}");
+    let mut text = String::new(rt.alloc());
+    for (front, digit, count, wanted) in LONG {
+        text.clear();
+        text.push_str(front)?;
+        push_times(&mut text, digit, *count)?;
+        assert_told(&rt, rt.alloc(), text.as_bytes(), wanted)?;
     }
     Ok(())
 }
 
+/// The form of a number: the coefficient, and the exponent of one that is not whole.
+fn form(alloc: Global, bytes: &[u8]) -> Option<(i128, Option<i32>)> {
+    match exact_value(alloc, bytes) {
+        Ok(
+            Json::Decimal {
+                exponent,
+                coefficient,
+            },
+        ) => Some((coefficient, Some(exponent))),
+        Ok(Json::Whole(number)) => Some((number, None)),
+        _ => None,
+    }
+}
+
 /// A decimal in its form: the coefficient does not end in 0.
 #[test]
-fn forms(rt: HostRuntime) -> Result<(), Fail> {
-    let price = exact_value(rt.alloc(), b"-8.950").ok();
-    let is_price = matches!(
-        price,
-        Some(Json::Decimal {
-            exponent: -2,
-            coefficient: -895
-        })
-    );
-    assert!(rt; is_price, "8.95 is 895 times ten to the -2");
-    let hundred = exact_value(rt.alloc(), b"1e2").ok();
-    assert!(rt;
-        matches!(hundred, Some(Json::Whole(100))),
-        "1e2 is the whole number 100"
-    );
+fn forms(rt: HostRuntime) {
+    assert_eq!(rt; form(rt.alloc(), b"-8.950"), Some((-895, Some(-2))));
+    assert_eq!(rt; form(rt.alloc(), b"1e2"), Some((100, None)));
+}
+
+/// Asserts the number of a fault, its name, and what it says.
+fn assert_fault(
+    rt: &impl Abort,
+    alloc: Global,
+    fault: &DocumentFault,
+    (number, name, wanted): (u8, &str, &str),
+) -> Result<(), AllocError> {
+    assert_eq!(rt; (fault.number(), fault.name()), (number, name));
+    let told = format!(in alloc; "{fault}")?;
+    assert_eq!(rt; told.as_str(), wanted);
     Ok(())
 }
 
 #[test]
 fn faults(rt: HostRuntime) -> Result<(), Fail> {
-    let path = String::from_str(rt.alloc(), "$[0]")?;
-    let rows = [
-        (DocumentFault::NotJson, 1, "NotJson", "NotJson"),
-        (
-            DocumentFault::NumberRange(path),
-            5,
-            "NumberRange",
-            "NumberRange at $[0]",
-        ),
-        (DocumentFault::ListTooLong, 3, "ListTooLong", "ListTooLong"),
-        (DocumentFault::NoMemory, 4, "NoMemory", "NoMemory"),
-    ];
-    for (fault, number, name, expected) in rows {
-        let mut text = String::new(rt.alloc());
-        write!(text, "{fault}")?;
-        assert_eq!(rt; text.as_str(), expected);
-        assert_eq!(rt; fault.number(), number, "{expected}");
-        assert_eq!(rt; fault.name(), name, "{expected}");
-    }
-    Ok(())
+    let alloc = rt.alloc();
+    let not_json = (1, "NotJson", "NotJson");
+    assert_fault(&rt, alloc, &DocumentFault::NotJson, not_json)?;
+    let too_long = (3, "ListTooLong", "ListTooLong");
+    assert_fault(&rt, alloc, &DocumentFault::ListTooLong, too_long)?;
+    let no_memory = (4, "NoMemory", "NoMemory");
+    assert_fault(&rt, alloc, &DocumentFault::NoMemory, no_memory)?;
+    let range = DocumentFault::NumberRange(String::from_str(alloc, "$[0]")?);
+    let out_of_range = (5, "NumberRange", "NumberRange at $[0]");
+    Ok(assert_fault(&rt, alloc, &range, out_of_range)?)
 }

@@ -4,6 +4,7 @@ use jp_iregexp::{CharClass, Pattern, read_pattern};
 use std::alloc::Global;
 
 mod categories;
+mod classes;
 mod conforming;
 mod hostile;
 mod position_counts;

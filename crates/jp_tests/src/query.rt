@@ -14,13 +14,20 @@ use std::test::Fail;
 /// A query, its tree as `Debug` writes it, and the spans of its components.
 type Row = (&'static str, &'static str, &'static [Option<Span>]);
 
-/// Asserts the tree of each query and the spans of its components.
+/// Asserts the tree of a query and the spans of its components.
+fn assert_tree(rt: &impl Abort, alloc: Global, (text, tree, spans): &Row) -> Result<(), Fail> {
+    let parsed = parse(alloc, text)?;
+    assert_eq!(rt; parsed.spans(), *spans);
+    let query = parsed.into_query();
+    let written = format!(in alloc; "{query:?}")?;
+    assert_eq!(rt; written.as_str(), *tree);
+    Ok(())
+}
+
+/// Asserts so of each query.
 fn assert_trees(rt: &impl Abort, alloc: Global, rows: &[Row]) -> Result<(), Fail> {
-    for (text, tree, spans) in rows {
-        let parsed = parse(alloc, text).ok().ok_or("refused")?;
-        assert_eq!(rt; parsed.spans(), *spans);
-        let query = parsed.into_query();
-        assert_eq!(rt; format!(in alloc; "{query:?}")?.as_str(), *tree);
+    for row in rows {
+        assert_tree(rt, alloc, row)?;
     }
     Ok(())
 }

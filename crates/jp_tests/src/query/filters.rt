@@ -38,7 +38,7 @@ fn a_filter_is_read(rt: HostRuntime) -> Result<(), Fail> {
 #[test]
 fn components_inside_components_have_spans(rt: HostRuntime) -> Result<(), Fail> {
     let text = "$[?@[?@.b==$[1]] , ?'1.5'==1.5]";
-    let parsed = parse(rt.alloc(), text).ok().ok_or("refused")?;
+    let parsed = parse(rt.alloc(), text)?;
     let spans = [
         Some(Span { start: 3, end: 16 }),
         Some(Span { start: 6, end: 9 }),
@@ -55,7 +55,7 @@ fn components_inside_components_have_spans(rt: HostRuntime) -> Result<(), Fail> 
 #[test]
 fn functions_and_their_arguments_have_spans(rt: HostRuntime) -> Result<(), Fail> {
     let text = "$[?length(@.a == 1) < match( $ , 'x', t_1( ), (@))]";
-    let parsed = parse(rt.alloc(), text).ok().ok_or("refused")?;
+    let parsed = parse(rt.alloc(), text)?;
     let spans = [
         Some(Span { start: 3, end: 19 }),
         Some(Span { start: 10, end: 18 }),
@@ -75,12 +75,8 @@ fn functions_and_their_arguments_have_spans(rt: HostRuntime) -> Result<(), Fail>
 
 #[test]
 fn parentheses_are_kept_in_trees(rt: HostRuntime) -> Result<(), Fail> {
-    let grouped = parse(rt.alloc(), "$[?(@.a||@.b)||@.c]")
-        .ok()
-        .ok_or("refused")?;
-    let flat = parse(rt.alloc(), "$[?@.a||@.b||@.c]")
-        .ok()
-        .ok_or("refused")?;
+    let grouped = parse(rt.alloc(), "$[?(@.a||@.b)||@.c]")?;
+    let flat = parse(rt.alloc(), "$[?@.a||@.b||@.c]")?;
     assert!(rt; grouped.into_query() != flat.into_query());
     Ok(())
 }
