@@ -1,9 +1,11 @@
 //! Rows of columns.
 
-use super::devices::{Narrow, Trickle};
-use super::programs::{assert_ends, status_over};
+use super::devices::{Alone, Narrow, Trickle};
+use super::programs::{assert_ends, words};
 use super::refusals::told;
+use jp_command::Device;
 use jp_explain::Reason;
+use jp_lines::run_program;
 use std::alloc::AllocError;
 use std::test::Fail;
 
@@ -174,11 +176,16 @@ fn stops_where_a_write_fails(rt: HostRuntime) -> Result<(), Fail> {
             size: 1,
             fails: false,
         };
-        let ended = status_over(rt.alloc(), &line, input, &mut output, &mut faults)?;
-        assert_eq!(rt;
-            (ended, output.taken.as_slice(), faults.taken.as_slice()),
-            (5, &whole.as_bytes()[..room], "write fault\n".as_bytes())
+        let ended = run_program(
+            rt.alloc(),
+            words(rt.alloc(), &line)?,
+            &mut Alone::new(input),
+            &mut Device::new(&mut output),
+            &mut Device::new(&mut faults),
         );
+        assert_eq!(rt; ended, 5);
+        assert!(rt; output.taken.as_slice() == &whole.as_bytes()[..room]);
+        assert!(rt; faults.taken.as_slice() == "write fault\n".as_bytes());
     }
     Ok(())
 }

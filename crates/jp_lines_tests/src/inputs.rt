@@ -1,11 +1,13 @@
 //! Runs over several inputs, some of which can't be opened or read.
 
 use super::devices::{Kept, Narrow, Shelf};
-use super::programs::status_of;
+use super::programs::{status_of, words};
 use super::refusals::told;
+use jp_command::Device;
 use jp_explain::Reason;
 use jp_json::JsonReason;
 use jp_lines::Unopened::{Failed, NotPermitted};
+use jp_lines::run_program;
 use std::alloc::{AllocError, Global};
 use std::process::Abort;
 
@@ -368,39 +370,39 @@ fn tells_nothing_where_what_reads_its_output_hung_up(rt: HostRuntime) -> Result<
     assert_fails(&rt, rt.alloc(), &help, 3, false, ("jp-", "write fault\n"))
 }
 
-const TELLS_OF_THE_STANDARD_INPUT_ALONE_WITHOUT_A_NAME: &[(&[&str], Kept<'_>, &str)] = &[
-    (
-        &["jp-lines", "eval", "--keep-going", "$.a"],
-        Kept::Failing(""),
-        "read fault\n",
-    ),
-    (
-        &["jp-lines", "eval", "$.a"],
-        Kept::Unopened(Failed),
-        "open fault\n",
-    ),
-    (
-        &["jp-lines", "eval", "$.a", "-"],
-        Kept::Failing(""),
-        "-: read fault\n",
-    ),
-];
-
 #[test]
 fn tells_of_the_standard_input_alone_without_a_name(rt: HostRuntime) -> Result<(), AllocError> {
-    for &(line, kept, told) in TELLS_OF_THE_STANDARD_INPUT_ALONE_WITHOUT_A_NAME {
+    let rows: [(&[&str], Kept<'_>, &str); 3] = [
+        (
+            &["jp-lines", "eval", "--keep-going", "$.a"],
+            Kept::Failing(""),
+            "read fault\n",
+        ),
+        (
+            &["jp-lines", "eval", "$.a"],
+            Kept::Unopened(Failed),
+            "open fault\n",
+        ),
+        (
+            &["jp-lines", "eval", "$.a", "-"],
+            Kept::Failing(""),
+            "-: read fault\n",
+        ),
+    ];
+    for (line, kept, told) in rows {
         let mut faults = Narrow::new(rt.alloc(), usize::MAX);
-        let ended = status_of(
+        let ended = run_program(
             rt.alloc(),
-            line,
+            words(rt.alloc(), line)?,
             &mut Shelf {
                 kept: &[("-", kept)],
                 asked: 0,
             },
-            Narrow::new(rt.alloc(), usize::MAX),
-            &mut faults,
-        )?;
-        assert_eq!(rt; (ended, faults.taken.as_slice()), (5, told.as_bytes()));
+            &mut Device::new(Narrow::new(rt.alloc(), usize::MAX)),
+            &mut Device::new(&mut faults),
+        );
+        assert_eq!(rt; ended, 5);
+        assert!(rt; faults.taken.as_slice() == told.as_bytes());
     }
     Ok(())
 }
