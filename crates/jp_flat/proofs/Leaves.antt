@@ -19,9 +19,7 @@ use Rattle.serde_json.specs.Read.{is_integer, number_from}
 use Rattle.jp_document.specs.OfJson.{items_of_json, members_of_json, value_of_json}
 use Rattle.jp_flat.specs.Private.Integer.{IsWholeText}
 use Rattle.jp_document.specs.NumberTexts.{numbers_of}
-use Rattle.jp_decimal.specs.NormalForm.{normal_form}
 use Rattle.jp_decimal.specs.TextValue.{value_of_text}
-use Rattle.jp_decimal.specs.declared.number.Number.{Number}
 use Rattle.jp_document.specs.NumberValue.{number_value}
 use Rattle.jp_flat.proofs.Numbers.{value-bounded, value-leaf, whole-kept}
 use Rattle.jp_document.specs.Location.{entries}
@@ -34,7 +32,7 @@ use Rattle.jp_flat.specs.Asked.{is_leaf}
 use Rattle.jp_flat.specs.Flat.{Shown, flat_value, number_of, text_at}
 use Rattle.jp_flat.specs.Private.Kept.{IsBare}
 use Rattle.jp_flat.specs.Private.Reading.{ReadsLeaf, IsWholeItem, ReadsFlat, ReadsFlatItems}
-use Rattle.jp_flat.specs.Private.Taken.{IsTaken}
+use Rattle.jp_flat.specs.Private.Taken.{IsHeld, IsTaken}
 use Rattle.jp_flat.specs.Private.Reading.{ReadsFlatMembers, with_items}
 use Rattle.jp_flat.specs.declared.item.Halves.{Halves}
 use Rattle.jp_flat.specs.declared.item.Item.{Item}
@@ -184,6 +182,14 @@ leaf-text k t p x is at = λ depth r items. (
   refl,
 )
 
+-- a number that is taken is read as its value
+pub number-read : {N : List ℕ → Option Value} (depth : ℕ) (k : Token) (r : List Token) (s : List ℕ)
+    (v : Value) → k ≡ Token.number s → N s ≡ Some v → ReadsValue N depth (k ∷ r) r v
+number-read {N = N} depth k r s v is taken =
+    one_token depth (k ∷ r) r (Token.number s) v (ap (λ k. k ∷ r) is)
+    (ap (converted (value_of_json N)) (value_is depth (Token.number s ∷ r))
+    ∙ ap (option_map (λ v. (v, r))) taken)
+
 -- whole numbers are taken in each mode
 whole-taken : (b : Bool) (s : List ℕ) (z : ℤ) → IsWholeText s z → numbers_of b s ≡ Some (whole z)
 whole-taken false s z x = x.is
@@ -194,9 +200,7 @@ pub leaf-whole : (k : Token) (t : Shown) (i : Item) (s : List ℕ) → k ≡ Tok
 leaf-whole k t i s is x = λ depth r items. (
   record {
     value = whole x.number;
-    reads = one_token depth (k ∷ r) r (Token.number s) (whole x.number) (ap (λ k. k ∷ r) is)
-        (ap (converted (value_of_json (numbers_of t.exact))) (value_is depth (Token.number s ∷ r))
-        ∙ ap (option_map (λ v. (v, r))) (whole-taken t.exact s x.number x.written));
+    reads = number-read depth k r s (whole x.number) is (whole-taken t.exact s x.number x.written);
     short = refl;
     means = x.means depth (with_items t items);
   },
@@ -217,22 +221,20 @@ pub leaf-taken : (k : Token) (t : Shown) (i : Item) (s : List ℕ) → k ≡ Tok
 leaf-taken k t i s is x = λ depth r items. (
   record {
     value = x.value;
-    reads = one_token depth (k ∷ r) r (Token.number s) x.value (ap (λ k. k ∷ r) is)
-        (ap (converted (value_of_json (numbers_of t.exact))) (value_is depth (Token.number s ∷ r))
-        ∙ ap (option_map (λ v. (v, r))) x.taken);
+    reads = number-read depth k r s x.value is x.taken;
     short = x.short;
     means = x.means depth items;
   },
   leaf-empty x.value x.alone,
 )
 
-pub numeral-taken : (t : Shown) (p : Span) (s : List ℕ) (n : Number) → t.exact ≡ true
-    → normal_form (value_of_text s) ≡ Some n → text_at t p ≡ Some s → IsTaken t s (code.Numeral p)
-numeral-taken t p s n mode held at = record {
+pub numeral-taken : (t : Shown) (p : Span) (s : List ℕ) → IsHeld t s → text_at t p ≡ Some s
+    → IsTaken t s (code.Numeral p)
+numeral-taken t p s x at = record {
   value = number_value (value_of_text s);
-  taken = ap (λ b. numbers_of b s) mode;
-  short = value-bounded (value_of_text s) n held;
-  alone = value-leaf (value_of_text s) n held;
+  taken = ap (λ b. numbers_of b s) x.exact;
+  short = value-bounded (value_of_text s) x.number x.held;
+  alone = value-leaf (value_of_text s) x.number x.held;
   means = λ k items. numeral-means k (with_items t items) p s at;
 }
 

@@ -35,12 +35,16 @@ pub(crate) fn kept_root(
     ensures exact { OnSome result (tables.new.exact ≡ tables.old.exact) }
 {
     let mut reader = Cursor::new(tables.text.as_bytes());
-    let item = kept_value(tables, pending, &mut reader, asked)?;
+    let item = if tables.exact {
+        kept_value::<true>(tables, pending, &mut reader, asked)?
+    } else {
+        kept_value::<false>(tables, pending, &mut reader, asked)?
+    };
     if reader.is_done() { Some(item) } else { None }
 }
 
 /// Reads a document's value, of which what is not asked for may be left out.
-fn kept_value(
+fn kept_value<const EXACT: bool>(
     tables: &mut Tables<'_>,
     pending: &mut Pending,
     reader: &mut Cursor<'_>,
@@ -53,15 +57,21 @@ fn kept_value(
 {
     match asked {
         AskedFor::OfRoot(names) => {
-            let item = picked_object(tables, pending, reader, MAX_DEPTH, names.as_slice())?;
+            let item = picked_object::<EXACT>(
+                tables,
+                pending,
+                reader,
+                MAX_DEPTH,
+                names.as_slice(),
+            )?;
             Some(item)
         }
         AskedFor::OfItems(names) => {
-            let item = picked_list(tables, pending, reader, MAX_DEPTH, names.as_slice())?;
+            let item = picked_list::<EXACT>(tables, pending, reader, MAX_DEPTH, names.as_slice())?;
             Some(item)
         }
         AskedFor::Anywhere(name) => {
-            let item = thin_value(tables, pending, reader, MAX_DEPTH, name.as_str())?;
+            let item = thin_value::<EXACT>(tables, pending, reader, MAX_DEPTH, name.as_str())?;
             Some(item)
         }
     }

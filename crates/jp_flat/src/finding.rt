@@ -29,7 +29,7 @@ struct Sought<'l> {
 /// Reads one value, and finds in it the value at a location, if one is given.
 #[cycle(finding)]
 #[inline(always)]
-pub(crate) fn find(
+pub(crate) fn find<const EXACT: bool>(
     tables: &mut Tables<'_>,
     pending: &mut Pending,
     reader: &mut Cursor<'_>,
@@ -47,15 +47,15 @@ pub(crate) fn find(
 {
     match location {
         Some([]) => {
-            let item = lone_value::<false>(tables, pending, reader, depth)?;
+            let item = lone_value::<EXACT>(tables, pending, reader, depth)?;
             Some(Some(item))
         }
         Some([step, rest @ ..]) => {
             let sought = Sought { step, rest };
-            find_inside(tables, pending, reader, depth, sought)
+            find_inside::<EXACT>(tables, pending, reader, depth, sought)
         }
         None => {
-            pass_value(reader, depth)?;
+            pass_value::<EXACT>(tables, reader, depth)?;
             Some(None)
         }
     }
@@ -64,7 +64,7 @@ pub(crate) fn find(
 /// Reads one value, and finds what is sought in it, which is not the value itself.
 #[cycle(finding)]
 #[inline(always)]
-fn find_inside(
+fn find_inside<const EXACT: bool>(
     tables: &mut Tables<'_>,
     pending: &mut Pending,
     reader: &mut Cursor<'_>,
@@ -80,18 +80,18 @@ fn find_inside(
     ensures shorter { OnSome result (length reader.new.tokens < length reader.old.tokens) }
     ensures text { reader.new.text ≡ reader.old.text }
 {
-    let token = reader.next::<false>()?;
+    let token = reader.next::<EXACT>()?;
     match token {
         Token::BeginArray if depth > 0 => {
-            let found = find_item(tables, pending, reader, depth - 1, sought)?;
+            let found = find_item::<EXACT>(tables, pending, reader, depth - 1, sought)?;
             Some(found)
         }
         Token::BeginObject if depth > 0 => {
-            let found = find_member(tables, pending, reader, depth - 1, sought)?;
+            let found = find_member::<EXACT>(tables, pending, reader, depth - 1, sought)?;
             Some(found)
         }
         _ => {
-            leaf::<false>(tables, token)?;
+            leaf::<EXACT>(tables, token)?;
             Some(None)
         }
     }
@@ -99,7 +99,7 @@ fn find_inside(
 
 /// Reads the items of a list, and finds what is sought in them.
 #[cycle(finding)]
-fn find_item(
+fn find_item<const EXACT: bool>(
     tables: &mut Tables<'_>,
     pending: &mut Pending,
     reader: &mut Cursor<'_>,
@@ -119,7 +119,7 @@ fn find_item(
     let mut index = 0u32;
     'items: while !reader.take_end_array() {
         let inside = item_sought(sought, index);
-        let item = find(tables, pending, reader, depth, inside)?;
+        let item = find::<EXACT>(tables, pending, reader, depth, inside)?;
         found = found_later(found, inside, item);
         index = index.checked_add(1)?;
     }
@@ -129,7 +129,7 @@ fn find_item(
 /// Reads the members of an object, and finds what is sought in them: of members with one name, in
 /// the last.
 #[cycle(finding)]
-fn find_member(
+fn find_member<const EXACT: bool>(
     tables: &mut Tables<'_>,
     pending: &mut Pending,
     reader: &mut Cursor<'_>,
@@ -148,7 +148,7 @@ fn find_member(
     let mut found = None;
     'members: while let Some(name) = reader.next_name()? {
         let inside = member_sought(tables, sought, name)?;
-        let item = find(tables, pending, reader, depth, inside)?;
+        let item = find::<EXACT>(tables, pending, reader, depth, inside)?;
         found = found_later(found, inside, item);
     }
     Some(found)

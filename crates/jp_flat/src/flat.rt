@@ -1,12 +1,12 @@
 //! Documents in tables.
 
 ghost use Rattle.std.specs.Prelude.{◌≡◌, [], true, IfOk, IfSome, OnSome, Some, map, option_map, string_bytes};
-ghost use Rattle.jp_decimal.specs.declared.numbers.Numbers.TheVariants.{Whole};
 ghost use Rattle.jp_document.specs.Document.{IsDocument};
 ghost use Rattle.jp_document.specs.Location.{owned_step};
 ghost use Rattle.jp_flat.specs.Flat.{is_flat, meaning, shown};
-ghost use Rattle.jp_document.specs.Exact.{IsDocumentBy, IsExactDocument};
+ghost use Rattle.jp_document.specs.Exact.{IsDocumentIn};
 ghost use Rattle.jp_flat.specs.Private.Reading.{ReadsFlatText};
+ghost use Rattle.jp_flat.specs.Private.Taken.{is_exact};
 ghost use Rattle.jp_flat.specs.Room.{IsIdle};
 
 use crate::asked::{AskedFor, kept_root};
@@ -17,6 +17,7 @@ use crate::of_tree::put_value;
 use crate::reading::{Pending, lone_value};
 use crate::tables::{MAX_DEPTH, Tables, parts_in};
 use crate::value_at::value_in;
+use jp_decimal::Numbers;
 use jp_document::{DocumentValue, OwnedStep};
 use std::alloc::{AllocError, Global};
 
@@ -82,7 +83,7 @@ impl<'t> Flat<'t> {
 pub fn flat_document(alloc: Global, bytes: &[u8]) -> Option<Flat<'_>>
     ensures { IfSome result (λ f. IsDocument bytes.now (meaning (shown f.tables) f.root)) }
 {
-    Room::new(alloc).read(bytes).ok()
+    Room::new(alloc).read(bytes, Numbers::Whole).ok()
 }
 
 /// What a document has at a location, in the memory that goes on to the next document.
@@ -152,34 +153,18 @@ impl Room {
         }
     }
 
-    /// The document that these bytes are, in this memory. An `Err` gives the memory back, and says
-    /// nothing of the bytes: they may be no document, too many for tables (2^32), or more than
-    /// there is memory for.
-    pub fn read(self, bytes: &[u8]) -> Result<Flat<'_>, Room>
-        ensures { IfOk result (λ f. IsDocument bytes.now (document_in f)) }
-    {
-        self.read_by(bytes, false)
-    }
-
-    /// The document that these bytes are where its numbers are exact decimals (RFC 8259 section 6):
-    /// each is what its text writes, in at most 38 digits and a power of ten from -1,000,000 to
-    /// 1,000,000. An `Err` gives the memory back and says nothing of the bytes, as that of `read`.
-    pub fn read_exact(self, bytes: &[u8]) -> Result<Flat<'_>, Room>
-        ensures { IfOk result (λ f. IsExactDocument bytes.now (document_in f)) }
-    {
-        self.read_by(bytes, true)
-    }
-
-    /// The document that these bytes are, in this memory; with `exact` its numbers are exact decimals, else
-    /// each is a whole one of 64 bits. An `Err` gives the memory back and says nothing of the bytes, as
-    /// that of `read`.
-    fn read_by(self, bytes: &[u8], exact: bool) -> Result<Flat<'_>, Room>
-        ensures { IfOk result (λ f. IsDocumentBy exact bytes.now (document_in f)) }
+    /// The document that these bytes are, in this memory. Its numbers are whole ones of 64 bits, or exact
+    /// decimals (RFC 8259 section 6): each is then what its text writes, in at most 38 digits and a power of
+    /// ten from -1,000,000 to 1,000,000. An `Err` gives the memory back, and says nothing of the bytes: they
+    /// may be no document, too many for tables (2^32), or more than there is memory for.
+    pub fn read(self, bytes: &[u8], numbers: Numbers) -> Result<Flat<'_>, Room>
+        ensures { IfOk result (λ f. IsDocumentIn numbers bytes.now (document_in f)) }
     {
         let Ok(text) = simdutf8::basic::from_utf8(bytes) else {
             return Err(self);
         };
         let mut pending = self.pending;
+        let exact = is_exact(numbers);
         let mut tables = Tables::of(text, self.spare, self.items, self.members, exact);
         tables.reserve(parts_in(bytes, 64));
         pending.reserve(parts_in(bytes, 16));
@@ -194,16 +179,22 @@ impl Room {
         }
     }
 
-    /// The document that these bytes are, in this memory, of which what is not asked for may be left
-    /// out. An `Err` gives the memory back, and says nothing of the bytes.
-    pub fn read_asked<'t>(self, bytes: &'t [u8], asked: &AskedFor) -> Result<Flat<'t>, Room>
-        ensures { IfOk result (IsReadFor Whole asked.now bytes.now) }
+    /// The document with such numbers that these bytes are, in this memory, of which what is not asked for
+    /// may be left out. An `Err` gives the memory back, and says nothing of the bytes.
+    pub fn read_asked<'t>(
+        self,
+        bytes: &'t [u8],
+        asked: &AskedFor,
+        numbers: Numbers,
+    ) -> Result<Flat<'t>, Room>
+        ensures { IfOk result (IsReadFor numbers asked.now bytes.now) }
     {
         let Ok(text) = simdutf8::basic::from_utf8(bytes) else {
             return Err(self);
         };
         let mut pending = self.pending;
-        let mut tables = Tables::of(text, self.spare, self.items, self.members, false);
+        let exact = is_exact(numbers);
+        let mut tables = Tables::of(text, self.spare, self.items, self.members, exact);
         tables.reserve(parts_in(bytes, 64));
         pending.reserve(parts_in(bytes, 16));
         let read = kept_root(&mut tables, &mut pending, asked);
@@ -217,17 +208,25 @@ impl Room {
         }
     }
 
-    /// The value at this location of the document that these bytes are, or that it has none there. It is
-    /// found while the document is read, and takes no memory for what stands elsewhere but for texts
-    /// with escapes on the way to it. An `Err` gives the memory back, and says nothing of the bytes.
-    pub fn read_at<'t>(self, bytes: &'t [u8], location: &[OwnedStep]) -> Result<Found<'t>, Room>
-        ensures { IfOk result (λ f. IsValueAt Whole bytes.now (map owned_step location.now) (flat_found f)) }
+    /// The value at this location of the document with such numbers that these bytes are, or that it has
+    /// none there. It is found while the document is read, and takes no memory for what stands elsewhere
+    /// but for texts with escapes on the way to it. An `Err` gives the memory back, and says nothing of the
+    /// bytes.
+    pub fn read_at<'t>(
+        self,
+        bytes: &'t [u8],
+        location: &[OwnedStep],
+        numbers: Numbers,
+    ) -> Result<Found<'t>, Room>
+        ensures { IfOk result
+            (λ f. IsValueAt numbers bytes.now (map owned_step location.now) (flat_found f)) }
     {
         let Ok(text) = simdutf8::basic::from_utf8(bytes) else {
             return Err(self);
         };
         let mut pending = self.pending;
-        let mut tables = Tables::of(text, self.spare, self.items, self.members, false);
+        let exact = is_exact(numbers);
+        let mut tables = Tables::of(text, self.spare, self.items, self.members, exact);
         let Some(found) = value_in(&mut tables, &mut pending, location) else {
             return Err(Room::of(tables, pending));
         };
@@ -240,6 +239,13 @@ impl Room {
             None => Ok(Found::Nothing(Room::of(tables, pending))),
         }
     }
+}
+
+/// Whether such numbers are decimals.
+fn is_exact(numbers: Numbers) -> bool
+    ensures { result ≡ is_exact numbers }
+{
+    matches!(numbers, Numbers::Decimal)
 }
 
 /// Reads the value of a whole text.

@@ -1,9 +1,9 @@
 //! Numbers by their characters, which stay in the text and are read when they are looked at.
 
-ghost use Rattle.std.specs.Prelude.{◌≡◌, IfSome, true};
+ghost use Rattle.std.specs.Prelude.{◌≡◌, IfSome, OnSome, true};
 ghost use Rattle.jp_flat.specs.Flat.{is_flat, meaning, shown};
 ghost use Rattle.jp_flat.specs.Private.Parts.{numeral_at};
-ghost use Rattle.jp_flat.specs.Private.Taken.{IsTaken};
+ghost use Rattle.jp_flat.specs.Private.Taken.{IsHeld, IsTaken};
 ghost use Rattle.jp_flat.specs.Private.Tokens.{StandsAt};
 ghost use Rattle.jp_flat.specs.declared.item.Item.TheVariants.{Numeral};
 ghost use Rattle.jp_lent.specs.Lending.{bare, seen_value};
@@ -31,6 +31,26 @@ pub(crate) fn taken<const EXACT: bool>(
     }
 }
 
+/// `held` where numbers are read exactly, else None.
+pub(crate) fn passed<const EXACT: bool>(tables: &Tables<'_>, text: &[u8]) -> Option<()>
+    ensures { OnSome result (IsHeld (shown tables.now) text.now) }
+{
+    if EXACT { held(tables, text) } else { None }
+}
+
+/// Passes over the number with these characters, where the tables take such numbers. None where it can't be
+/// held.
+#[inline(never)]
+fn held(tables: &Tables<'_>, text: &[u8]) -> Option<()>
+    ensures { OnSome result (IsHeld (shown tables.now) text.now) }
+{
+    if !tables.exact {
+        return None;
+    }
+    number_of(text)?;
+    Some(())
+}
+
 /// The number with these characters, which stand in the text from this offset on, where the tables take
 /// such numbers. None where it can't be held, or stands beyond 2^32 bytes.
 #[inline(never)]
@@ -38,10 +58,7 @@ fn numeral(tables: &Tables<'_>, first: usize, text: &[u8]) -> Option<Item>
     requires { StandsAt tables.now.text.now first text.now }
     ensures { IfSome result (IsTaken (shown tables.now) text.now) }
 {
-    if !tables.exact {
-        return None;
-    }
-    number_of(text)?;
+    held(tables, text)?;
     let span = in_text(tables, first, text)?;
     Some(Item::Numeral(span))
 }

@@ -22,7 +22,7 @@ use crate::token::{Spelled, Token};
 
 /// Reads a document's value, and if it is a list, of the objects that are its items the members of
 /// these names alone.
-pub(crate) fn picked_list(
+pub(crate) fn picked_list<const EXACT: bool>(
     tables: &mut Tables<'_>,
     pending: &mut Pending,
     reader: &mut Cursor<'_>,
@@ -35,22 +35,22 @@ pub(crate) fn picked_list(
     ensures text { reader.new.text ≡ reader.old.text }
     ensures exact { OnSome result (tables.new.exact ≡ tables.old.exact) }
 {
-    let token = reader.next::<false>()?;
+    let token = reader.next::<EXACT>()?;
     match token {
         Token::BeginArray => {
             let inside = depth.checked_sub(1)?;
-            let list = picked_items(tables, pending, reader, inside, names)?;
+            let list = picked_items::<EXACT>(tables, pending, reader, inside, names)?;
             Some(list)
         }
         _ => {
-            let item = value_behind::<false>(tables, pending, reader, depth, token)?;
+            let item = value_behind::<EXACT>(tables, pending, reader, depth, token)?;
             Some(item)
         }
     }
 }
 
 /// Reads the items of a list, and of those that are objects the members of these names alone.
-fn picked_items(
+fn picked_items<const EXACT: bool>(
     tables: &mut Tables<'_>,
     pending: &mut Pending,
     reader: &mut Cursor<'_>,
@@ -65,7 +65,7 @@ fn picked_items(
 {
     let base = pending.items.len();
     'items: while !reader.take_end_array() {
-        let item = picked_object(tables, pending, reader, depth, names)?;
+        let item = picked_object::<EXACT>(tables, pending, reader, depth, names)?;
         put(&mut pending.items, item)?;
     }
     let list = close_list(tables, &mut pending.items, base)?;
@@ -74,7 +74,7 @@ fn picked_items(
 
 /// Reads a value, and if it is an object the members of these names alone.
 #[inline(always)]
-pub(crate) fn picked_object(
+pub(crate) fn picked_object<const EXACT: bool>(
     tables: &mut Tables<'_>,
     pending: &mut Pending,
     reader: &mut Cursor<'_>,
@@ -90,22 +90,22 @@ pub(crate) fn picked_object(
     ensures shorter { OnSome result (length reader.new.tokens < length reader.old.tokens) }
     ensures text { reader.new.text ≡ reader.old.text }
 {
-    let token = reader.next::<false>()?;
+    let token = reader.next::<EXACT>()?;
     match token {
         Token::BeginObject => {
             let inside = depth.checked_sub(1)?;
-            let object = picked_members(tables, pending, reader, inside, names)?;
+            let object = picked_members::<EXACT>(tables, pending, reader, inside, names)?;
             Some(object)
         }
         _ => {
-            let item = value_behind::<false>(tables, pending, reader, depth, token)?;
+            let item = value_behind::<EXACT>(tables, pending, reader, depth, token)?;
             Some(item)
         }
     }
 }
 
 /// Reads the members of an object, and keeps those of these names alone.
-fn picked_members(
+fn picked_members<const EXACT: bool>(
     tables: &mut Tables<'_>,
     pending: &mut Pending,
     reader: &mut Cursor<'_>,
@@ -125,12 +125,12 @@ fn picked_members(
     let mut rises = true;
     'members: while let Some(name) = reader.next_name()? {
         if !is_picked(tables, names, name)? {
-            pass_value(reader, depth)?;
+            pass_value::<EXACT>(tables, reader, depth)?;
             continue;
         }
         rises = still_rises(rises, tables, &pending.members, base, name);
         let span = text_span(tables, name)?;
-        let item = value::<false>(tables, pending, reader, depth)?;
+        let item = value::<EXACT>(tables, pending, reader, depth)?;
         put(&mut pending.members, Named { name: span, item })?;
     }
     let object = close_object(

@@ -23,7 +23,7 @@ use crate::token::{Spelled, Token};
 /// Reads one value, in which members of other names may be left out where nothing can be inside them.
 #[cycle(thinning)]
 #[inline(always)]
-pub(crate) fn thin_value(
+pub(crate) fn thin_value<const EXACT: bool>(
     tables: &mut Tables<'_>,
     pending: &mut Pending,
     reader: &mut Cursor<'_>,
@@ -39,14 +39,14 @@ pub(crate) fn thin_value(
     ensures shorter { OnSome result (length reader.new.tokens < length reader.old.tokens) }
     ensures text { reader.new.text ≡ reader.old.text }
 {
-    let token = reader.next::<false>()?;
+    let token = reader.next::<EXACT>()?;
     match token {
         Token::BeginArray | Token::BeginObject => {
-            let item = thin_container(tables, pending, reader, depth, token, wanted)?;
+            let item = thin_container::<EXACT>(tables, pending, reader, depth, token, wanted)?;
             Some(item)
         }
         _ => {
-            let item = leaf::<false>(tables, token)?;
+            let item = leaf::<EXACT>(tables, token)?;
             Some(item)
         }
     }
@@ -55,7 +55,7 @@ pub(crate) fn thin_value(
 /// The list or the object that begins with a token.
 #[cycle(thinning)]
 #[inline(always)]
-fn thin_container(
+fn thin_container<const EXACT: bool>(
     tables: &mut Tables<'_>,
     pending: &mut Pending,
     reader: &mut Cursor<'_>,
@@ -77,11 +77,11 @@ fn thin_container(
     }
     match token {
         Token::BeginArray => {
-            let item = thin_items(tables, pending, reader, depth - 1, wanted)?;
+            let item = thin_items::<EXACT>(tables, pending, reader, depth - 1, wanted)?;
             Some(item)
         }
         Token::BeginObject => {
-            let item = thin_members(tables, pending, reader, depth - 1, wanted)?;
+            let item = thin_members::<EXACT>(tables, pending, reader, depth - 1, wanted)?;
             Some(item)
         }
         _ => None,
@@ -90,7 +90,7 @@ fn thin_container(
 
 /// Reads the items of a list, as `items` does.
 #[cycle(thinning)]
-fn thin_items(
+fn thin_items<const EXACT: bool>(
     tables: &mut Tables<'_>,
     pending: &mut Pending,
     reader: &mut Cursor<'_>,
@@ -107,17 +107,17 @@ fn thin_items(
     ensures text { reader.new.text ≡ reader.old.text }
 {
     let first = tables.items.len();
-    let token = leaves::<false>(tables, reader)?;
+    let token = leaves::<EXACT>(tables, reader)?;
     if let Token::EndArray = token {
         let list = list_from(tables, first)?;
         return Some(list);
     }
     let base = pending.items.len();
     move_parts(&mut pending.items, &mut tables.items, first)?;
-    let item = thin_container(tables, pending, reader, depth, token, wanted)?;
+    let item = thin_container::<EXACT>(tables, pending, reader, depth, token, wanted)?;
     put(&mut pending.items, item)?;
     'items: while !reader.take_end_array() {
-        let item = thin_value(tables, pending, reader, depth, wanted)?;
+        let item = thin_value::<EXACT>(tables, pending, reader, depth, wanted)?;
         put(&mut pending.items, item)?;
     }
     let list = close_list(tables, &mut pending.items, base)?;
@@ -127,7 +127,7 @@ fn thin_items(
 /// Reads the members of an object, and leaves out those of other names in whose values nothing can be
 /// inside, up to the first one that is kept: a later one may stand instead of one of its name.
 #[cycle(thinning)]
-fn thin_members(
+fn thin_members<const EXACT: bool>(
     tables: &mut Tables<'_>,
     pending: &mut Pending,
     reader: &mut Cursor<'_>,
@@ -146,8 +146,10 @@ fn thin_members(
     let base = pending.members.len();
     let mut rises = true;
     'members: while let Some(name) = reader.next_name()? {
-        let token = reader.next::<false>()?;
-        let (item, spare) = member_behind(tables, pending, reader, depth, name, token, wanted)?;
+        let token = reader.next::<EXACT>()?;
+        let (item, spare) = member_behind::<EXACT>(
+            tables, pending, reader, depth, name, token, wanted,
+        )?;
         rises = put_member(tables, &mut pending.members, base, rises, name, item, spare)?;
     }
     let object = close_object(
@@ -164,7 +166,7 @@ fn thin_members(
 /// wanted, and answers whether the member is spare: it may be missing.
 #[cycle(thinning)]
 #[inline(always)]
-fn member_behind(
+fn member_behind<const EXACT: bool>(
     tables: &mut Tables<'_>,
     pending: &mut Pending,
     reader: &mut Cursor<'_>,
@@ -187,14 +189,14 @@ fn member_behind(
     match token {
         Token::BeginArray | Token::BeginObject => {
             if may_be(wanted, name) {
-                let item = lone_container::<false>(tables, pending, reader, depth, token)?;
+                let item = lone_container::<EXACT>(tables, pending, reader, depth, token)?;
                 return Some((item, false));
             }
-            let item = thin_container(tables, pending, reader, depth, token, wanted)?;
+            let item = thin_container::<EXACT>(tables, pending, reader, depth, token, wanted)?;
             Some((item, false))
         }
         _ => {
-            let item = leaf::<false>(tables, token)?;
+            let item = leaf::<EXACT>(tables, token)?;
             Some((item, !may_be(wanted, name)))
         }
     }

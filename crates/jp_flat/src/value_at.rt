@@ -23,6 +23,10 @@ pub(crate) fn value_in(
     ensures exact { OnSome result (tables.new.exact ≡ tables.old.exact) }
 {
     let mut reader = Cursor::new(tables.text.as_bytes());
-    let found = find(tables, pending, &mut reader, MAX_DEPTH, Some(location))?;
+    let found = if tables.exact {
+        find::<true>(tables, pending, &mut reader, MAX_DEPTH, Some(location))?
+    } else {
+        find::<false>(tables, pending, &mut reader, MAX_DEPTH, Some(location))?
+    };
     if reader.is_done() { Some(found) } else { None }
 }

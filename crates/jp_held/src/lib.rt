@@ -17,7 +17,6 @@
 #![tactic(auto)]
 
 mod document;
-mod located;
 mod portion;
 mod reading;
 

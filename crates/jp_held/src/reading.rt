@@ -5,7 +5,6 @@
 //! document. So does `jp_exact` where numbers are decimals, of the first that can't be held.
 
 ghost use Rattle.std.specs.Prelude.{◌≡◌, IfErr, IfOk, map};
-ghost use Rattle.jp_decimal.specs.declared.numbers.Numbers.TheVariants.{Decimal};
 ghost use Rattle.jp_document.specs.Exact.{IsDocumentIn};
 ghost use Rattle.jp_document.specs.Location.{owned_step};
 ghost use Rattle.jp_exact.specs.Defects.{IsDocumentFaultIn};
@@ -14,7 +13,6 @@ ghost use Rattle.jp_flat.specs.FlatValue.{IsValueAt, document_in, flat_found};
 ghost use Rattle.jp_held.specs.Portions.{IsExcerpt};
 
 use crate::document::Document;
-use crate::located::located;
 use crate::portion::{Excerpt, Portion};
 use jp_decimal::Numbers;
 use jp_document::{DocumentFault, OwnedStep};
@@ -72,7 +70,7 @@ pub fn read_into(
     ensures ok { IfOk result (λ f. IsDocumentIn numbers bytes.now (document_in f)) }
     ensures fault { IfErr result (λ e. IsDocumentFaultIn numbers bytes.now e.1) }
 {
-    match tables_of(room, bytes, numbers) {
+    match room.read(bytes, numbers) {
         Ok(flat) => Ok(flat),
         Err(room) => match read_by_tree(alloc, bytes, numbers) {
             Ok(flat) => Ok(flat),
@@ -81,20 +79,9 @@ pub fn read_into(
     }
 }
 
-/// The document with such numbers that these bytes are, in this memory. An `Err` gives the memory back
-/// and says nothing of the bytes.
-fn tables_of(room: Room, bytes: &[u8], numbers: Numbers) -> Result<Flat<'_>, Room>
-    ensures { IfOk result (λ f. IsDocumentIn numbers bytes.now (document_in f)) }
-{
-    match numbers {
-        Numbers::Whole => room.read(bytes),
-        Numbers::Decimal => room.read_exact(bytes),
-    }
-}
-
 /// What the document with such numbers that these bytes are has at this location, in the memory of other
-/// documents, which an `Err` gives back with what is wrong with the bytes. Where its numbers are whole, it
-/// is found while the document is read; of decimals all of it is read first.
+/// documents, which an `Err` gives back with what is wrong with the bytes. It is found while the document is
+/// read.
 pub fn read_value_into<'t>(
     alloc: Global,
     room: Room,
@@ -106,50 +93,13 @@ pub fn read_value_into<'t>(
         (λ f. IsValueAt numbers bytes.now (map owned_step location.now) (flat_found f)) }
     ensures fault { IfErr result (λ e. IsDocumentFaultIn numbers bytes.now e.1) }
 {
-    match value_in_tables(alloc, room, bytes, location, numbers) {
+    match room.read_at(bytes, location, numbers) {
         Ok(found) => Ok(found),
         Err(room) => match value_by_tree(alloc, bytes, location, numbers) {
             Ok(Some(flat)) => Ok(Found::Value(flat)),
             Ok(None) => Ok(Found::Nothing(room)),
             Err(fault) => Err((room, fault)),
         },
-    }
-}
-
-/// What the document with such numbers that these bytes are has at this location, in this memory. An `Err`
-/// gives the memory back and says nothing of the bytes.
-fn value_in_tables<'t>(
-    alloc: Global,
-    room: Room,
-    bytes: &'t [u8],
-    location: &[OwnedStep],
-    numbers: Numbers,
-) -> Result<Found<'t>, Room>
-    ensures { IfOk result
-        (λ f. IsValueAt numbers bytes.now (map owned_step location.now) (flat_found f)) }
-{
-    match numbers {
-        Numbers::Whole => room.read_at(bytes, location),
-        Numbers::Decimal => decimal_value(alloc, room, bytes, location),
-    }
-}
-
-/// What the document with decimals that these bytes are has at this location, of the tables of all of it. An
-/// `Err` gives the memory back and says nothing of the bytes.
-fn decimal_value<'t>(
-    alloc: Global,
-    room: Room,
-    bytes: &'t [u8],
-    location: &[OwnedStep],
-) -> Result<Found<'t>, Room>
-    ensures { IfOk result
-        (λ f. IsValueAt Decimal bytes.now (map owned_step location.now) (flat_found f)) }
-{
-    let flat = room.read_exact(bytes)?;
-    match located(alloc, &flat, location) {
-        Ok(Some(found)) => Ok(Found::Value(found)),
-        Ok(None) => Ok(Found::Nothing(flat.into_room())),
-        Err(_) => Err(flat.into_room()),
     }
 }
 
@@ -165,31 +115,12 @@ pub fn read_asked<'t>(
     ensures ok { IfOk result (IsReadFor numbers asked.now bytes.now) }
     ensures fault { IfErr result (λ e. IsDocumentFaultIn numbers bytes.now e.1) }
 {
-    match asked_in_tables(room, bytes, asked, numbers) {
+    match room.read_asked(bytes, asked, numbers) {
         Ok(flat) => Ok(flat),
         Err(room) => match read_by_tree(alloc, bytes, numbers) {
             Ok(flat) => Ok(flat),
             Err(fault) => Err((room, fault)),
         },
-    }
-}
-
-/// The document with such numbers that these bytes are, of which so much is kept as is asked of it, in this
-/// memory. An `Err` gives the memory back and says nothing of the bytes.
-fn asked_in_tables<'t>(
-    room: Room,
-    bytes: &'t [u8],
-    asked: &AskedFor,
-    numbers: Numbers,
-) -> Result<Flat<'t>, Room>
-    ensures { IfOk result (IsReadFor numbers asked.now bytes.now) }
-{
-    match numbers {
-        Numbers::Whole => room.read_asked(bytes, asked),
-        Numbers::Decimal => {
-            let flat = room.read_exact(bytes)?;
-            Ok(flat)
-        }
     }
 }
 

@@ -87,19 +87,18 @@ pub record FindsInText (source : List ℕ) (t : Shown) (l : Location) (i : Optio
     pub short : everywhere is_bounded value ≡ true
     pub found : IsFoundAs most_levels t (value_at value l) i
 
--- the tokens begin with a value, and the rest follows; nothing is sought in it, whatever the tables
--- hold
-abbrev pub PassesValue : ℕ → List Token → List Token → Type 0
-PassesValue depth ts rest = (t : Shown) → FindsAt depth ts rest t None None
+-- the tokens begin with a value, as the tables take numbers, and the rest follows; nothing is sought in it
+abbrev pub PassesValue : Shown → ℕ → List Token → List Token → Type 0
+PassesValue t depth ts rest = FindsAt depth ts rest t None None
 
 -- the same of the items of a list
-abbrev pub PassesItems : ℕ → List Token → List Token → Type 0
-PassesItems depth ts rest = (t : Shown) → FindsItem depth ts rest t None None
+abbrev pub PassesItems : Shown → ℕ → List Token → List Token → Type 0
+PassesItems t depth ts rest = FindsItem depth ts rest t None None
 
 -- the same of the members of an object
-abbrev pub PassesMembers : ℕ → List Token → List Token → Type 0
-PassesMembers depth ts rest = (t : Shown) → FindsMember depth ts rest t None None
+abbrev pub PassesMembers : Shown → ℕ → List Token → List Token → Type 0
+PassesMembers t depth ts rest = FindsMember depth ts rest t None None
 
 -- the token alone is such a value
-abbrev pub PassesLeaf : Token → Type 0
-PassesLeaf token = (depth : ℕ) (rest : List Token) → PassesValue depth (token ∷ rest) rest
+abbrev pub PassesLeaf : Shown → Token → Type 0
+PassesLeaf t token = (depth : ℕ) (rest : List Token) → PassesValue t depth (token ∷ rest) rest

@@ -1,5 +1,6 @@
 //! Documents of which no more is kept than is asked for.
 
+use jp_decimal::Numbers;
 use jp_flat::{AskedFor, Room};
 use jp_lent::value_text;
 use std::alloc::{AllocError, Global};
@@ -119,6 +120,46 @@ const ANYWHERE: &[(&str, &str)] = &[
     ("7", "7"),
 ];
 
+/// Documents of decimals, and what is kept of them where the members `a` and `bc` of the document are asked
+/// for.
+const DECIMALS_OF_ROOT: &[(&str, &str)] = &[
+    (r#"{"b":0.5,"a":8.950,"c":[1e2]}"#, r#"{"a":8.95}"#),
+    (r#"{"bc":1E-7,"b":-0.0}"#, r#"{"bc":1e-7}"#),
+    (
+        r#"{"b":12345678901234567890,"a":{"b":0.10}}"#,
+        r#"{"a":{"b":0.1}}"#,
+    ),
+    // no documents of decimals, though what is wrong is not asked for
+    (r#"{"b":1.,"a":1}"#, "no document"),
+    (r#"{"b":1e1000001,"a":1}"#, "no document"),
+    (
+        r#"{"a":1,"b":123456789012345678901234567890123456789}"#,
+        "no document",
+    ),
+    (r#"{"a":1.5.5}"#, "no document"),
+];
+
+/// The same where of a list's items the members `a` and `bc` are asked for.
+const DECIMALS_OF_ITEMS: &[(&str, &str)] = &[
+    (
+        r#"[{"b":0.5,"a":8.950},1.50,{"b":[-0.0,{"c":1e400}]}]"#,
+        r#"[{"a":8.95},1.5,{}]"#,
+    ),
+    (r#"[{"a":[1.0,2e0]}]"#, r#"[{"a":[1,2]}]"#),
+    (r#"[{"b":[.5],"a":1}]"#, "no document"),
+    (r#"[{"b":1e-1000001,"a":1}]"#, "no document"),
+];
+
+/// The same where members of the name `a` are asked for, wherever they stand.
+const DECIMALS_ANYWHERE: &[(&str, &str)] = &[
+    (
+        r#"{"x":0.5,"y":[{"z":1e2,"a":8.950}]}"#,
+        r#"{"y":[{"a":8.95}]}"#,
+    ),
+    (r#"[1.50,{"x":0.1}]"#, "[1.5,{}]"),
+    (r#"{"x":1e1000001,"a":1}"#, "no document"),
+];
+
 /// Bytes that are no document, though what is wrong is not asked for.
 const WRONG: &[&str] = &[
     r#"[{"b":1.5,"a":1}]"#,
@@ -154,22 +195,28 @@ const WRONG_OBJECTS: &[&str] = &[
 ];
 
 /// The compact text of what is kept of a document, `no document` where tables do not hold it.
-fn kept_text(alloc: Global, text: &str, asked: &AskedFor) -> Result<String, AllocError> {
-    match Room::new(alloc).read_asked(text.as_bytes(), asked) {
+fn kept_text(
+    alloc: Global,
+    text: &str,
+    asked: &AskedFor,
+    numbers: Numbers,
+) -> Result<String, AllocError> {
+    match Room::new(alloc).read_asked(text.as_bytes(), asked, numbers) {
         Ok(flat) => value_text(alloc, flat.value()),
         Err(_) => String::from_str(alloc, "no document"),
     }
 }
 
-/// Asserts what is kept of each document.
+/// Asserts what is kept of each document with such numbers.
 fn assert_kept(
     rt: &impl Abort,
     alloc: Global,
     asked: &AskedFor,
+    numbers: Numbers,
     rows: &[(&str, &str)],
 ) -> Result<(), AllocError> {
     for (text, wanted) in rows {
-        let kept = kept_text(alloc, text, asked)?;
+        let kept = kept_text(alloc, text, asked, numbers)?;
         assert_eq!(rt; kept.as_str(), *wanted, "{text}");
     }
     Ok(())
@@ -178,7 +225,7 @@ fn assert_kept(
 /// Asserts that tables hold none of the texts.
 fn assert_none_kept(rt: &impl Abort, alloc: Global, asked: &AskedFor, texts: &[&str]) {
     for text in texts {
-        let kept = Room::new(alloc).read_asked(text.as_bytes(), asked);
+        let kept = Room::new(alloc).read_asked(text.as_bytes(), asked, Numbers::Whole);
         assert!(rt; kept.is_err(), "{text}");
     }
 }
@@ -210,19 +257,25 @@ fn anywhere(alloc: Global) -> Result<AskedFor, AllocError> {
 fn members_of_the_root(rt: HostRuntime) -> Result<(), Fail> {
     let asked = of_root(rt.alloc())?;
     assert_none_kept(&rt, rt.alloc(), &asked, WRONG_OBJECTS);
-    Ok(assert_kept(&rt, rt.alloc(), &asked, OF_ROOT)?)
+    assert_kept(&rt, rt.alloc(), &asked, Numbers::Decimal, OF_ROOT)?;
+    assert_kept(&rt, rt.alloc(), &asked, Numbers::Decimal, DECIMALS_OF_ROOT)?;
+    Ok(assert_kept(&rt, rt.alloc(), &asked, Numbers::Whole, OF_ROOT)?)
 }
 
 #[test]
 fn members_of_items(rt: HostRuntime) -> Result<(), Fail> {
     let asked = of_items(rt.alloc())?;
     assert_none_kept(&rt, rt.alloc(), &asked, WRONG);
-    Ok(assert_kept(&rt, rt.alloc(), &asked, OF_ITEMS)?)
+    assert_kept(&rt, rt.alloc(), &asked, Numbers::Decimal, OF_ITEMS)?;
+    assert_kept(&rt, rt.alloc(), &asked, Numbers::Decimal, DECIMALS_OF_ITEMS)?;
+    Ok(assert_kept(&rt, rt.alloc(), &asked, Numbers::Whole, OF_ITEMS)?)
 }
 
 #[test]
 fn members_anywhere(rt: HostRuntime) -> Result<(), Fail> {
     let asked = anywhere(rt.alloc())?;
     assert_none_kept(&rt, rt.alloc(), &asked, WRONG);
-    Ok(assert_kept(&rt, rt.alloc(), &asked, ANYWHERE)?)
+    assert_kept(&rt, rt.alloc(), &asked, Numbers::Decimal, ANYWHERE)?;
+    assert_kept(&rt, rt.alloc(), &asked, Numbers::Decimal, DECIMALS_ANYWHERE)?;
+    Ok(assert_kept(&rt, rt.alloc(), &asked, Numbers::Whole, ANYWHERE)?)
 }

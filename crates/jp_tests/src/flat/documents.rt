@@ -1,5 +1,6 @@
 //! Rows of documents, read into tables.
 
+use jp_decimal::Numbers;
 use jp_flat::{Room, flat_document};
 use jp_lent::{push_value, value_text};
 use std::alloc::{AllocError, Global};
@@ -102,7 +103,7 @@ const IN_ONE_MEMORY: &[(&str, &str)] = &[
 
 /// Appends the compact text of a document that is read into a memory, and gives the memory back.
 fn push_read(line: &mut String, room: Room, text: &str) -> Result<Room, AllocError> {
-    match room.read(text.as_bytes()) {
+    match room.read(text.as_bytes(), Numbers::Whole) {
         Ok(flat) => {
             push_value(line, flat.value())?;
             Ok(flat.into_room())

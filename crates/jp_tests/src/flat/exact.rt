@@ -1,6 +1,7 @@
 //! Documents whose numbers are read exactly. The values are those that RFC 8259 section 6 gives the texts,
 //! written in the layout of RFC 8785 section 3.2.2.3.
 
+use jp_decimal::Numbers;
 use jp_flat::Room;
 use jp_lent::push_value;
 use std::alloc::{AllocError, Global};
@@ -55,7 +56,7 @@ const REFUSED: &[&str] = &[
 
 /// Appends the compact text of a document that is read into a memory, and gives the memory back.
 fn push_exact(line: &mut String, room: Room, text: &str) -> Result<Room, AllocError> {
-    match room.read_exact(text.as_bytes()) {
+    match room.read(text.as_bytes(), Numbers::Decimal) {
         Ok(flat) => {
             push_value(line, flat.value())?;
             Ok(flat.into_room())
@@ -94,7 +95,10 @@ fn exact_documents(rt: HostRuntime) -> Result<(), Fail> {
 fn no_exact_documents(rt: HostRuntime) -> Result<(), Fail> {
     let mut room = Room::new(rt.alloc());
     for text in REFUSED {
-        room = room.read_exact(text.as_bytes()).err().ok_or(*text)?;
+        room = room
+            .read(text.as_bytes(), Numbers::Decimal)
+            .err()
+            .ok_or(*text)?;
     }
     Ok(())
 }
@@ -106,7 +110,10 @@ const NOT_WHOLE: &[&str] = &["1.0", "[1,1.5]", "-0", "1e2", "1844674407370955161
 fn fractions_are_not_whole(rt: HostRuntime) -> Result<(), Fail> {
     let mut room = Room::new(rt.alloc());
     for text in NOT_WHOLE {
-        room = room.read(text.as_bytes()).err().ok_or(*text)?;
+        room = room
+            .read(text.as_bytes(), Numbers::Whole)
+            .err()
+            .ok_or(*text)?;
     }
     Ok(())
 }

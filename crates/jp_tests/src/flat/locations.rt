@@ -1,5 +1,6 @@
 //! One value of a document, found while the document is read.
 
+use jp_decimal::Numbers;
 use jp_document::{OwnedStep, read_path};
 use jp_flat::{Found, Room};
 use jp_lent::{push_value, value_text};
@@ -9,8 +10,13 @@ use std::test::Fail;
 
 /// The compact text of what is found at a location, else `nothing`, or `no document` where the document is left to
 /// others.
-fn found_text(alloc: Global, text: &str, location: &[OwnedStep]) -> Result<String, AllocError> {
-    match Room::new(alloc).read_at(text.as_bytes(), location) {
+fn found_text(
+    alloc: Global,
+    text: &str,
+    location: &[OwnedStep],
+    numbers: Numbers,
+) -> Result<String, AllocError> {
+    match Room::new(alloc).read_at(text.as_bytes(), location, numbers) {
         Ok(found) => match found.value() {
             Some(value) => value_text(alloc, value),
             None => String::from_str(alloc, "nothing"),
@@ -19,17 +25,17 @@ fn found_text(alloc: Global, text: &str, location: &[OwnedStep]) -> Result<Strin
     }
 }
 
-/// Asserts what is found in a document at the location of a normalized path.
+/// Asserts what is found in a document with such numbers at the location of a normalized path.
 fn assert_found(
     rt: &impl Abort,
     alloc: Global,
-    text: &str,
-    path: &str,
-    wanted: &str,
+    numbers: Numbers,
+    row: &(&str, &str, &str),
 ) -> Result<(), Fail> {
+    let (text, path, wanted) = row;
     let location = read_path(alloc, path)?;
-    let found = found_text(alloc, text, location.steps())?;
-    assert_eq!(rt; found.as_str(), wanted, "{text} {path}");
+    let found = found_text(alloc, text, location.steps(), numbers)?;
+    assert_eq!(rt; found.as_str(), *wanted, "{text} {path}");
     Ok(())
 }
 
@@ -78,8 +84,57 @@ const ROWS: &[(&str, &str, &str)] = &[
 
 #[test]
 fn values_at_locations(rt: HostRuntime) -> Result<(), Fail> {
-    for (text, path, wanted) in ROWS {
-        assert_found(&rt, rt.alloc(), text, path, wanted)?;
+    for row in ROWS {
+        assert_found(&rt, rt.alloc(), Numbers::Whole, row)?;
+    }
+    Ok(())
+}
+
+/// Documents of decimals, paths, and what is found there.
+const DECIMALS: &[(&str, &str, &str)] = &[
+    // the number that is sought, in each form
+    (r#"{"a":[0.5,8.950]}"#, "$['a'][1]", "8.95"),
+    (r#"{"a":1e400}"#, "$['a']", "1e+400"),
+    (r#"{"a":-0.0}"#, "$['a']", "0"),
+    (r#"{"a":9007199254740993.0}"#, "$['a']", "9007199254740993"),
+    (
+        r#"{"a":18446744073709551616}"#,
+        "$['a']",
+        "18446744073709551616",
+    ),
+    (
+        r#"{"b":0.1,"a":{"d":2.50,"c":1e2}}"#,
+        "$['a']",
+        r#"{"c":100,"d":2.5}"#,
+    ),
+    // numbers that are passed over, before it and behind it
+    (r#"{"b":[1.5,{"c":1e-7}],"a":1,"d":2E+3}"#, "$['a']", "1"),
+    (r#"[12345678901234567890,-0,0.0,7]"#, "$[3]", "7"),
+    (r#"{"a":[0.5]}"#, "$['a'][1]", "nothing"),
+    (r#"{"a":1.5}"#, "$['a']['b']", "nothing"),
+    (r#"{"a":0.5,"a":[1.25]}"#, "$['a'][0]", "1.25"),
+    // what is no document of decimals
+    (r#"{"a":1,"b":1.}"#, "$['a']", "no document"),
+    (r#"{"a":1,"b":[.5]}"#, "$['a']", "no document"),
+    (r#"{"a":1,"b":1e}"#, "$['a']", "no document"),
+    (r#"{"a":1,"b":1.5.5}"#, "$['a']", "no document"),
+    (r#"{"a":1,"b":1e1000001}"#, "$['a']", "no document"),
+    (
+        r#"{"b":[0.123456789012345678901234567890123456789],"a":1}"#,
+        "$['a']",
+        "no document",
+    ),
+    (
+        r#"{"a":123456789012345678901234567890123456789}"#,
+        "$['a']",
+        "no document",
+    ),
+];
+
+#[test]
+fn decimals_at_locations(rt: HostRuntime) -> Result<(), Fail> {
+    for row in DECIMALS {
+        assert_found(&rt, rt.alloc(), Numbers::Decimal, row)?;
     }
     Ok(())
 }
@@ -101,7 +156,7 @@ fn push_found(
     text: &str,
     location: &[OwnedStep],
 ) -> Result<Room, AllocError> {
-    match room.read_at(text.as_bytes(), location) {
+    match room.read_at(text.as_bytes(), location, Numbers::Whole) {
         Ok(Found::Value(flat)) => {
             push_value(line, flat.value())?;
             Ok(flat.into_room())

@@ -11,7 +11,7 @@ use Rattle.jp_flat.proofs.finding.+finding.Goals as goal
 
 pub find_inside-returns-in_ok-found-in-BeginArray-clause-finds :
     goal.find_inside-returns-in_ok-found-in-BeginArray-clause-finds
-find_inside-returns-in_ok-found-in-BeginArray-clause-finds t c =
+find_inside-returns-in_ok-found-in-BeginArray-clause-finds _ t c =
     let k = token_of c.in_ok-token.token in
     let is : k ≡ Token.begin_array = grind arith in
     let first : c.args.reader.now.tokens ≡ Token.begin_array ∷ c.next.new.self.tokens = grind arith in
@@ -21,7 +21,7 @@ find_inside-returns-in_ok-found-in-BeginArray-clause-finds t c =
 
 pub find_inside-returns-in_ok-found-in-BeginObject-clause-finds :
     goal.find_inside-returns-in_ok-found-in-BeginObject-clause-finds
-find_inside-returns-in_ok-found-in-BeginObject-clause-finds t c =
+find_inside-returns-in_ok-found-in-BeginObject-clause-finds _ t c =
     let k = token_of c.in_ok-token.token in
     let is : k ≡ Token.begin_object = grind arith in
     let first : c.args.reader.now.tokens ≡ Token.begin_object ∷ c.next.new.self.tokens = grind arith in
@@ -32,14 +32,14 @@ find_inside-returns-in_ok-found-in-BeginObject-clause-finds t c =
 
 pub find_inside-returns-in_ok-leaf-in_default-clause-finds :
     goal.find_inside-returns-in_ok-leaf-in_default-clause-finds
-find_inside-returns-in_ok-leaf-in_default-clause-finds t c =
+find_inside-returns-in_ok-leaf-in_default-clause-finds _ t c =
     let done = c.in_ok-leaf-in_default.ensures in
     finds-leaf c.args.depth c.args.reader.now.tokens c.next.new.self.tokens
     (token_of c.in_ok-token.token) (shown c.leaf.new.tables) c.in_ok-leaf-in_default.field-0
     (Some c.args.sought) (c.in_ok-token.ensures.reads done.good) done.leaf
 
 pub find_item-items-init : goal.find_item-items-init
-find_item-items-init t c = record {
+find_item-items-init _ t c = record {
   so =
       items_begin c.args.depth c.args.reader.now.tokens (shown c.args.tables.now)
       (Some c.args.sought);
@@ -49,7 +49,7 @@ find_item-items-init t c = record {
 }
 
 pub find_item-items-preserved : goal.find_item-items-preserved
-find_item-items-preserved t c =
+find_item-items-preserved _ t c =
     let l = c.items in
     let same : c.take_end_array.new.self.tokens ≡ l.reader.tokens = grind arith in
     let done = c.in_ok-item.ensures in
@@ -71,7 +71,7 @@ find_item-items-preserved t c =
     }
 
 pub find_item-returns-clause-finds : goal.find_item-returns-clause-finds
-find_item-returns-clause-finds t c =
+find_item-returns-clause-finds _ t c =
     let l = c.items in
     let over : after_end_array l.reader.tokens ≡ Some c.take_end_array.new.self.tokens = grind arith in
     items_end c.args.depth c.args.reader.now.tokens l.reader.tokens c.take_end_array.new.self.tokens
@@ -79,7 +79,7 @@ find_item-returns-clause-finds t c =
     l.invariant.so
 
 pub find_member-members-init : goal.find_member-members-init
-find_member-members-init t c = record {
+find_member-members-init _ t c = record {
   so =
       members_begin c.args.depth c.args.reader.now.tokens (shown c.args.tables.now)
       (Some c.args.sought);
@@ -89,7 +89,7 @@ find_member-members-init t c = record {
 }
 
 pub find_member-members-preserved : goal.find_member-members-preserved
-find_member-members-preserved t c =
+find_member-members-preserved _ t c =
     let l = c.members in
     let sought = c.in_ok-inside.ensures.sought in
     let k = sought.text in
@@ -116,7 +116,7 @@ find_member-members-preserved t c =
     }
 
 pub find_member-returns-clause-finds : goal.find_member-returns-clause-finds
-find_member-returns-clause-finds t c =
+find_member-returns-clause-finds _ t c =
     let l = c.members in
     let over : read_key l.reader.tokens ≡ Some (None, c.next_name.new.self.tokens) = grind arith in
     members_end c.args.depth c.args.reader.now.tokens l.reader.tokens c.next_name.new.self.tokens

@@ -7,7 +7,7 @@ use Rattle.jp_flat.proofs.PickedParts.{items-begin, items-end, items-more}
 use Rattle.jp_flat.proofs.picking.picked_items.Goals as goal
 
 pub items-init : goal.items-init
-items-init c = record {
+items-init _ c = record {
   so =
       let at : c.len-base.result ≡ length c.args.pending.now.items.items = search rules in
       items-begin (is_listed c.args.names.now) c.args.depth c.args.reader.now.tokens
@@ -17,7 +17,7 @@ items-init c = record {
 }
 
 pub items-preserved : goal.items-preserved
-items-preserved c =
+items-preserved _ c =
     let l = c.items in
     let p = is_listed c.args.names.now in
     let same : c.take_end_array.new.self.tokens ≡ l.reader.tokens = grind arith in
@@ -39,7 +39,7 @@ items-preserved c =
     }
 
 pub returns-clause-keeps : goal.returns-clause-keeps
-returns-clause-keeps c =
+returns-clause-keeps _ c =
     let l = c.items in
     let over : after_end_array l.reader.tokens ≡ Some c.take_end_array.new.self.tokens = grind arith in
     items-end (is_listed c.args.names.now) c.args.depth c.args.reader.now.tokens l.reader.tokens
@@ -48,4 +48,4 @@ returns-clause-keeps c =
     c.in_ok-list.ensures.few c.in_ok-list.ensures.list c.in_ok-list.ensures.grows l.invariant.so
 
 pub returns-clause-exact : goal.returns-clause-exact
-returns-clause-exact c = c.in_ok-list.ensures.grows.exact ∙ c.items.invariant.exact
+returns-clause-exact _ c = c.in_ok-list.ensures.grows.exact ∙ c.items.invariant.exact

@@ -5,7 +5,7 @@ use Rattle.jp_flat.proofs.PickedParts.{ItemsPicked}
 use Rattle.jp_flat.proofs.picking.picked_items.Given as goal
 
 abbrev pub invariant-items : goal.invariant-items
-invariant-items l = record {
+invariant-items _ l = record {
   so : ItemsPicked (is_listed l.names) l.depth l.initial.reader.tokens l.reader.tokens (shown l.tables)
       l.base l.initial.pending.items.items l.pending.items.items;
   exact : l.tables.exact ≡ l.initial.tables.exact;
@@ -13,4 +13,4 @@ invariant-items l = record {
 }
 
 abbrev pub decreases-items : goal.decreases-items
-decreases-items l = length l.reader.tokens
+decreases-items _ l = length l.reader.tokens

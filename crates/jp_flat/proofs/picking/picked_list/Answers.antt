@@ -9,7 +9,7 @@ use Rattle.jp_flat.proofs.picking.picked_list.Goals as goal
 
 pub returns-in_ok-list-in-BeginArray-clause-keeps :
     goal.returns-in_ok-list-in-BeginArray-clause-keeps
-returns-in_ok-list-in-BeginArray-clause-keeps c =
+returns-in_ok-list-in-BeginArray-clause-keeps _ c =
     let k = token_of c.in_ok-token.token in
     let is : k ≡ Token.begin_array = grind arith in
     let first : c.args.reader.now.tokens ≡ Token.begin_array ∷ c.next.new.self.tokens = grind arith in
@@ -23,7 +23,7 @@ returns-in_ok-list-in-BeginArray-clause-keeps c =
     c.next.new.self.tokens r u i) inside c.in_ok-list-in-BeginArray.ensures.keeps)
 
 pub returns-in_ok-item-in_default : goal.returns-in_ok-item-in_default
-returns-in_ok-item-in_default c =
+returns-in_ok-item-in_default _ c =
     let done = c.in_ok-item-in_default.ensures in
     let first : c.args.reader.now.tokens ≡ token_of c.in_ok-token.token ∷ c.next.new.self.tokens =
     c.in_ok-token.ensures.reads done.good in

@@ -13,7 +13,7 @@ use Rattle.jp_flat.proofs.PickedParts.{members-begin, members-end, members_more,
 use Rattle.jp_flat.proofs.picking.picked_members.Goals as goal
 
 pub members-init : goal.members-init
-members-init c = record {
+members-init _ c = record {
   so =
       let at : c.len-base.result ≡ length c.args.pending.now.members.items = search rules in
       members-begin (is_listed c.args.names.now) c.args.depth c.args.reader.now.tokens
@@ -23,7 +23,7 @@ members-init c = record {
 }
 
 pub members-preserved : goal.members-preserved
-members-preserved c =
+members-preserved _ c =
     let l = c.members in
     let names = c.args.names.now in
     let picked = c.in_ok-is_picked.ensures.picked in
@@ -59,7 +59,7 @@ members-preserved c =
     }
 
 pub members-preserved-then-not-branch : goal.members-preserved-then-not-branch
-members-preserved-then-not-branch c =
+members-preserved-then-not-branch _ c =
     let l = c.members in
     let names = c.args.names.now in
     let picked = c.in_ok-is_picked.ensures.picked in
@@ -86,7 +86,7 @@ members-preserved-then-not-branch c =
     }
 
 pub returns-clause-keeps : goal.returns-clause-keeps
-returns-clause-keeps c =
+returns-clause-keeps _ c =
     let l = c.members in
     let over : read_key l.reader.tokens ≡ Some (None, c.next_name.new.self.tokens) = grind arith in
     members-end (is_listed c.args.names.now) c.args.depth c.args.reader.now.tokens l.reader.tokens

@@ -5,7 +5,7 @@ use Rattle.jp_flat.proofs.PickedParts.{MembersPicked}
 use Rattle.jp_flat.proofs.picking.picked_members.Given as goal
 
 abbrev pub invariant-members : goal.invariant-members
-invariant-members l = record {
+invariant-members _ l = record {
   so : MembersPicked (is_listed l.names) l.depth l.initial.reader.tokens l.reader.tokens
       (shown l.initial.tables) (shown l.tables) l.base l.rises l.initial.pending.members.items
       l.pending.members.items;
@@ -14,4 +14,4 @@ invariant-members l = record {
 }
 
 abbrev pub decreases-members : goal.decreases-members
-decreases-members l = length l.reader.tokens
+decreases-members _ l = length l.reader.tokens

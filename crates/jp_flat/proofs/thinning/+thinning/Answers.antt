@@ -18,7 +18,7 @@ use Rattle.jp_flat.proofs.thinning.+thinning.Goals as goal
 
 pub thin_value-returns-in_ok-item-in_default-clause-keeps :
     goal.thin_value-returns-in_ok-item-in_default-clause-keeps
-thin_value-returns-in_ok-item-in_default-clause-keeps t c =
+thin_value-returns-in_ok-item-in_default-clause-keeps _ t c =
     let k = token_of c.in_ok-token.token in
     let done = c.in_ok-item-in_default.ensures in
     let first : c.args.reader.now.tokens ≡ k ∷ c.next.new.self.tokens =
@@ -30,7 +30,7 @@ thin_value-returns-in_ok-item-in_default-clause-keeps t c =
 
 pub thin_container-returns-in_ok-item-in-BeginArray-clause-keeps :
     goal.thin_container-returns-in_ok-item-in-BeginArray-clause-keeps
-thin_container-returns-in_ok-item-in-BeginArray-clause-keeps t c =
+thin_container-returns-in_ok-item-in-BeginArray-clause-keeps _ t c =
     let k = token_of c.args.token in
     let is : k ≡ Token.begin_array = grind arith in
     keeps-list (IsThinned c.args.wanted.now) c.args.depth (k ∷ c.args.reader.now.tokens)
@@ -40,7 +40,7 @@ thin_container-returns-in_ok-item-in-BeginArray-clause-keeps t c =
 
 pub thin_container-returns-in_ok-item-in-BeginObject-clause-keeps :
     goal.thin_container-returns-in_ok-item-in-BeginObject-clause-keeps
-thin_container-returns-in_ok-item-in-BeginObject-clause-keeps t c =
+thin_container-returns-in_ok-item-in-BeginObject-clause-keeps _ t c =
     let k = token_of c.args.token in
     let is : k ≡ Token.begin_object = grind arith in
     keeps-object (IsThinned c.args.wanted.now) c.args.depth (k ∷ c.args.reader.now.tokens)
@@ -49,7 +49,7 @@ thin_container-returns-in_ok-item-in-BeginObject-clause-keeps t c =
     (omega arith) (ap (λ k. k ∷ c.args.reader.now.tokens) is) c.in_ok-item-in-BeginObject.ensures.keeps
 
 pub thin_items-returns-in-EndArray-clause-keeps : goal.thin_items-returns-in-EndArray-clause-keeps
-thin_items-returns-in-EndArray-clause-keeps t c =
+thin_items-returns-in-EndArray-clause-keeps _ t c =
     let k = token_of c.in_ok-token.token in
     let r = c.leaves.new.reader.tokens in
     let is : k ≡ Token.end_array = grind arith in
@@ -62,7 +62,7 @@ thin_items-returns-in-EndArray-clause-keeps t c =
     c.in_ok-list.ensures.few c.in_ok-list.ensures.list c.in_ok-token.ensures.reads)
 
 pub thin_items-items-init : goal.thin_items-items-init
-thin_items-items-init t c =
+thin_items-items-init _ t c =
     let k = token_of c.in_ok-token.token in
     let s = c.leaves.new.tables in
     let q = c.leaves.new.reader.tokens in
@@ -93,7 +93,7 @@ thin_items-items-init t c =
     }
 
 pub thin_items-items-preserved : goal.thin_items-items-preserved
-thin_items-items-preserved t c =
+thin_items-items-preserved _ t c =
     let l = c.items in
     let n = c.args.wanted.now in
     let same : c.take_end_array.new.self.tokens ≡ l.reader.tokens = grind arith in
@@ -115,7 +115,7 @@ thin_items-items-preserved t c =
     }
 
 pub thin_items-returns-clause-keeps : goal.thin_items-returns-clause-keeps
-thin_items-returns-clause-keeps t c =
+thin_items-returns-clause-keeps _ t c =
     let l = c.items in
     let over : after_end_array l.reader.tokens ≡ Some c.take_end_array.new.self.tokens = grind arith in
     kept_items-end c.args.wanted.now c.args.depth c.args.reader.now.tokens l.reader.tokens
@@ -125,7 +125,7 @@ thin_items-returns-clause-keeps t c =
     c.in_ok-list-2.ensures.list c.in_ok-list-2.ensures.grows l.invariant.so
 
 pub thin_members-members-init : goal.thin_members-members-init
-thin_members-members-init t c = record {
+thin_members-members-init _ t c = record {
   so =
       let at : c.len-base.result ≡ length c.args.pending.now.members.items = search rules in
       kept_members-begin c.args.wanted.now c.args.depth c.args.reader.now.tokens
@@ -135,7 +135,7 @@ thin_members-members-init t c = record {
 }
 
 pub thin_members-members-preserved : goal.thin_members-members-preserved
-thin_members-members-preserved t c =
+thin_members-members-preserved _ t c =
     let l = c.members in
     let n = c.args.wanted.now in
     let name = c.in-Some.name in
@@ -174,7 +174,7 @@ thin_members-members-preserved t c =
     }
 
 pub thin_members-returns-clause-keeps : goal.thin_members-returns-clause-keeps
-thin_members-returns-clause-keeps t c =
+thin_members-returns-clause-keeps _ t c =
     let l = c.members in
     let over : read_key l.reader.tokens ≡ Some (None, c.next_name.new.self.tokens) = grind arith in
     kept_members-end c.args.wanted.now c.args.depth c.args.reader.now.tokens l.reader.tokens
@@ -185,7 +185,7 @@ thin_members-returns-clause-keeps t c =
 
 pub member_behind-returns-in_ok-item-in_default-clause-keeps :
     goal.member_behind-returns-in_ok-item-in_default-clause-keeps
-member_behind-returns-in_ok-item-in_default-clause-keeps t c =
+member_behind-returns-in_ok-item-in_default-clause-keeps _ t c =
     let k = token_of c.args.token in
     let r = c.args.reader.now.tokens in
     let s = shown c.leaf.new.tables in

@@ -1,8 +1,9 @@
 use Rattle.std.proofs.Common.{◌≡◌, IsUtf8, rules, subst, ap, ◌∙◌}
-use Rattle.jp_flat.specs.Flat.{shown}
+use Rattle.jp_flat.specs.Flat.{meaning, shown}
 use Rattle.jp_flat.specs.Private.Reading.{ReadsFlatText}
-use Rattle.jp_flat.proofs.Documents.{flat-document, flat-sound}
-use Rattle.jp_flat.proofs.flat.Room.read_by.Goals as goal
+use Rattle.jp_flat.specs.Private.Taken.{is_exact}
+use Rattle.jp_flat.proofs.Documents.{flat-document, flat-sound, in-numbers}
+use Rattle.jp_flat.proofs.flat.Room.read.Goals as goal
 
 pub invariant_of-result : goal.invariant_of-result
 invariant_of-result c =
@@ -11,10 +12,11 @@ invariant_of-result c =
     let both : (c.in-Ok.text.now ≡ c.args.bytes.now) × IsUtf8 c.args.bytes.now = search rules in
     let source : c.reserve.new.self.text.now ≡ c.args.bytes.now =
     c.reserve.ensures.text ∙ c.of-tables.ensures.source ∙ both.0 in
-    let mode : t.exact ≡ c.args.exact =
-    c.in-Some.ensures.exact ∙ ap (λ s. s.exact) c.reserve.ensures.same ∙ c.of-tables.ensures.exact in
+    let mode : t.exact ≡ is_exact c.args.numbers =
+    c.in-Some.ensures.exact ∙ ap (λ s. s.exact) c.reserve.ensures.same ∙ c.of-tables.ensures.exact
+    ∙ c.is_exact-exact.ensures in
     record {
-      sound = flat-sound c.args.exact c.args.bytes.now t i mode both.1
+      sound = flat-sound (is_exact c.args.numbers) c.args.bytes.now t i mode both.1
           (subst (λ s. ReadsFlatText s t i) source c.in-Some.ensures.reads);
     }
 
@@ -25,7 +27,9 @@ returns-in-Some c =
     let both : (c.in-Ok.text.now ≡ c.args.bytes.now) × IsUtf8 c.args.bytes.now = search rules in
     let source : c.reserve.new.self.text.now ≡ c.args.bytes.now =
     c.reserve.ensures.text ∙ c.of-tables.ensures.source ∙ both.0 in
-    let mode : t.exact ≡ c.args.exact =
-    c.in-Some.ensures.exact ∙ ap (λ s. s.exact) c.reserve.ensures.same ∙ c.of-tables.ensures.exact in
-    flat-document c.args.exact c.args.bytes.now t i mode both.1
-    (subst (λ s. ReadsFlatText s t i) source c.in-Some.ensures.reads)
+    let mode : t.exact ≡ is_exact c.args.numbers =
+    c.in-Some.ensures.exact ∙ ap (λ s. s.exact) c.reserve.ensures.same ∙ c.of-tables.ensures.exact
+    ∙ c.is_exact-exact.ensures in
+    in-numbers c.args.numbers c.args.bytes.now (meaning t i)
+    (flat-document (is_exact c.args.numbers) c.args.bytes.now t i mode both.1
+    (subst (λ s. ReadsFlatText s t i) source c.in-Some.ensures.reads))
