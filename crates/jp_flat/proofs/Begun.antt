@@ -13,7 +13,7 @@ use Rattle.jp_decimal.specs.TextValue.{value_of_text}
 use Rattle.jp_document.specs.NumberValue.{number_value}
 use Rattle.jp_document.specs.NumberTexts.{numbers_of, whole_number}
 use Rattle.jp_document.proofs.NumberValues.{number-always}
-use Rattle.jp_document.specs.Value.{Value, list, members_of, null, object}
+use Rattle.jp_document.specs.Value.{Value, list, members_of, object}
 use Rattle.jp_document.proofs.Options.{some_from_map, some_from_then}
 use Rattle.jp_flat.specs.Private.FromTokens.{ReadsValue}
 use Rattle.json.specs.Lex.{string_token}

@@ -18,7 +18,7 @@ use Rattle.jp_document.specs.NumberTexts.{numbers_of}
 use Rattle.jp_flat.specs.Private.FromTokens.{ReadsText}
 use Rattle.jp_flat.specs.Private.Found.{FindsAt, FindsInText}
 use Rattle.jp_flat.specs.Private.Reading.{ReadsFlat, ReadsFlatText}
-use Rattle.jp_flat.specs.Private.Taken.{is_exact}
+use Rattle.jp_flat.specs.Private.Modes.{is_exact}
 use Rattle.jp_flat.specs.declared.flat.Flat.{Flat}
 use Rattle.jp_flat.specs.declared.item.Item.{Item}
 

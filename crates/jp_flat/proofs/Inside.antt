@@ -3,7 +3,7 @@ use Rattle.std.proofs.Common.{◌≡◌, ◌≤◌, ◌+◌, ℕ, zero, suc, tru
 use Rattle.std.proofs.Common.{Option, Some, None, option_map, option_and_then, is_some, unwrap_or}
 use Rattle.std.proofs.Common.{refl, sym, ap, subst, ◌∙◌, arith, IsUtf8, take, drop, leb}
 use Rattle.std.proofs.Common.{length-drop}
-use Rattle.std.proofs.Common.{Bool, false, pos, negsuc, ◌⊎◌, inl, inr}
+use Rattle.std.proofs.Common.{Bool, pos, negsuc, ◌⊎◌, inl, inr}
 use Rattle.std.specs.BTreeMap.{is_at}
 use Rattle.std.specs.Map.{lookup}
 use Rattle.std.specs.List.{slice_get}

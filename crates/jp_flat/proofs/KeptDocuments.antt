@@ -16,7 +16,7 @@ use Rattle.jp_flat.specs.declared.asked.AskedFor.{AskedFor}
 use Rattle.jp_flat.specs.declared.asked.AskedFor.TheVariants.{Anywhere, OfItems, OfRoot}
 use Rattle.jp_flat.specs.declared.flat.Flat.{Flat}
 use Rattle.jp_flat.specs.declared.item.Item.{Item}
-use Rattle.jp_flat.specs.Private.Taken.{is_exact}
+use Rattle.jp_flat.specs.Private.Modes.{is_exact}
 use Rattle.jp_flat.proofs.Documents.{in-numbers}
 use Rattle.jp_flat.proofs.Picked.{members-allowed, picked-allowed}
 use Rattle.jp_flat.proofs.ReadValues.{document-by, valid-by}

@@ -6,7 +6,7 @@ ghost use Rattle.jp_document.specs.Location.{owned_step};
 ghost use Rattle.jp_flat.specs.Flat.{is_flat, meaning, shown};
 ghost use Rattle.jp_document.specs.Exact.{IsDocumentIn};
 ghost use Rattle.jp_flat.specs.Private.Reading.{ReadsFlatText};
-ghost use Rattle.jp_flat.specs.Private.Taken.{is_exact};
+ghost use Rattle.jp_flat.specs.Private.Modes.{is_exact};
 ghost use Rattle.jp_flat.specs.Room.{IsIdle};
 
 use crate::asked::{AskedFor, kept_root};

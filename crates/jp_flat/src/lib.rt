@@ -3,17 +3,18 @@
 //!
 //! `flat_document` reads one, `Flat::value` is its value, and a `FlatValue` is a `Lent` one. A `Room`
 //! takes the memory from one document to the next: `Room::read_at` reads a document for the one value
-//! at a location, `Room::read_asked` for what a query asks of it, and `Room::read_exact` one whose
-//! numbers may be decimals:
+//! at a location, and `Room::read_asked` for what a query asks of it. Each takes which numbers the document
+//! may have:
 //!
 //! ```text
 //! let flat = flat_document(alloc, b"{\"a\":[1,2]}")?;
 //! let (_, list) = flat.value().member("a")?;     // [1,2]
-//! let flat = flat.into_room().read(b"[3]")?;     // the next one, in the same memory
+//! let flat = flat.into_room().read(b"[0.5]", Numbers::Decimal)?;     // the next one, in the same memory
 //! let a = OwnedStep::Name(String::from_str(alloc, "a")?);
-//! let found = flat.into_room().read_at(b"{\"a\":[1,2]}", &[a, OwnedStep::Index(0)])?;    // 1
+//! let a0 = &[a, OwnedStep::Index(0)];
+//! let found = flat.into_room().read_at(b"{\"a\":[1,2]}", a0, Numbers::Whole)?;     // 1
 //! let asked = AskedFor::OfItems(vec![in alloc; String::from_str(alloc, "a")?]?);
-//! let flat = found.into_room().read_asked(b"[{\"a\":1,\"b\":2}]", &asked)?;      // [{"a":1}]
+//! let flat = found.into_room().read_asked(b"[{\"a\":1,\"b\":2}]", &asked, Numbers::Whole)?;    // [{"a":1}]
 //! ```
 //!
 //! For the layer above: what is read is a document, with its value in `specs/FlatValue.antt`, or what

@@ -1,10 +1,8 @@
 -- Numbers that are not whole, where they are taken.
-use Rattle.std.specs.Prelude.{◌≡◌, ℕ, Bool, true, false, List, Some}
+use Rattle.std.specs.Prelude.{◌≡◌, ℕ, true, List, Some}
 use Rattle.jp_decimal.specs.NormalForm.{normal_form}
 use Rattle.jp_decimal.specs.TextValue.{value_of_text}
 use Rattle.jp_decimal.specs.declared.number.Number.{Number}
-use Rattle.jp_decimal.specs.declared.numbers.Numbers.{Numbers}
-use Rattle.jp_decimal.specs.declared.numbers.Numbers.TheVariants.{Whole, Decimal}
 use Rattle.jp_document.specs.Value.{Value, everywhere}
 use Rattle.jp_flat.specs.Private.Bounded.{is_bounded}
 use Rattle.jp_flat.specs.Asked.{is_leaf}
@@ -12,11 +10,6 @@ use Rattle.jp_flat.specs.Flat.{Shown, flat_value}
 use Rattle.jp_document.specs.NumberTexts.{numbers_of}
 use Rattle.jp_flat.specs.Private.Reading.{with_items}
 use Rattle.jp_flat.specs.declared.item.Item.{Item}
-
--- such numbers are decimals
-abbrev pub is_exact : Numbers → Bool
-is_exact Whole = false
-is_exact Decimal = true
 
 -- the tables take decimals, and the number with these characters can be held
 pub record IsHeld (t : Shown) (s : List ℕ) : Type 0 where

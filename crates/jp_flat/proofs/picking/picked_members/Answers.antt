@@ -68,7 +68,7 @@ members-preserved-then-not-branch _ c =
     let a = c.next_name.new.self.tokens in
     let r = c.pass_value.new.reader.tokens in
     let w = shown c.is_picked.new.tables in
-    let passed = done.passes w in
+    let passed = done.passes in
     let other : is_listed names k ≡ false = sym picked.told ∙ c.if-not-branch.true in
     let named : read_key l.reader.tokens ≡ Some (Some k, a) =
     subst (ReadsName l.reader.tokens a) c.in-Some.is c.in_ok-name.ensures.reads k picked.says in

@@ -1,7 +1,7 @@
 use Rattle.std.proofs.Common.{◌≡◌, IsUtf8, rules, subst, ap, ◌∙◌}
 use Rattle.jp_flat.specs.Flat.{meaning, shown}
 use Rattle.jp_flat.specs.Private.Reading.{ReadsFlatText}
-use Rattle.jp_flat.specs.Private.Taken.{is_exact}
+use Rattle.jp_flat.specs.Private.Modes.{is_exact}
 use Rattle.jp_flat.proofs.Documents.{flat-document, flat-sound, in-numbers}
 use Rattle.jp_flat.proofs.flat.Room.read.Goals as goal
 

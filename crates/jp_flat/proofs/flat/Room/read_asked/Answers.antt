@@ -1,7 +1,7 @@
 use Rattle.std.proofs.Common.{◌≡◌, ◌∙◌, ap, IsUtf8, refl, rules, subst}
 use Rattle.jp_flat.specs.Flat.{shown}
 use Rattle.jp_flat.specs.Private.Kept.{KeepsFlatText}
-use Rattle.jp_flat.specs.Private.Taken.{is_exact}
+use Rattle.jp_flat.specs.Private.Modes.{is_exact}
 use Rattle.jp_flat.proofs.KeptDocuments.{kept-document, kept-sound}
 use Rattle.jp_flat.proofs.flat.Room.read_asked.Goals as goal
 

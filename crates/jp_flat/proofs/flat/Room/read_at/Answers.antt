@@ -2,7 +2,7 @@ use Rattle.std.proofs.Common.{◌≡◌, ◌∙◌, IsUtf8, map, refl, rules, su
 use Rattle.jp_document.specs.Location.{owned_step}
 use Rattle.jp_flat.specs.Flat.{shown}
 use Rattle.jp_flat.specs.Private.Found.{FindsInText}
-use Rattle.jp_flat.specs.Private.Taken.{is_exact}
+use Rattle.jp_flat.specs.Private.Modes.{is_exact}
 use Rattle.jp_flat.proofs.Documents.{found-sound, none-found, value-found}
 use Rattle.jp_flat.proofs.flat.Room.read_at.Goals as goal
 
