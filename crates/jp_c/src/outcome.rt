@@ -65,10 +65,8 @@ impl Outcome {
             Outcome::Misread(DocumentFault::NotWhole(path), _) => path.as_str(),
             Outcome::Fault(FindFault::Document(DocumentFault::NumberRange(path))) => path.as_str(),
             Outcome::Misread(DocumentFault::NumberRange(path), _) => path.as_str(),
-            Outcome::Usage
-            | Outcome::Fault(_)
-            | Outcome::Misread(_, _)
-            | Outcome::OtherNumbers => "",
+            Outcome::Usage | Outcome::Fault(_) | Outcome::Misread(_, _) | Outcome::OtherNumbers =>
+                "",
         }
     }
 
@@ -83,10 +81,7 @@ impl Outcome {
             Outcome::Misread(DocumentFault::NotWhole(path), _) => path,
             Outcome::Fault(FindFault::Document(DocumentFault::NumberRange(path))) => path,
             Outcome::Misread(DocumentFault::NumberRange(path), _) => path,
-            Outcome::Usage
-            | Outcome::Fault(_)
-            | Outcome::Misread(_, _)
-            | Outcome::OtherNumbers => {
+            Outcome::Usage | Outcome::Fault(_) | Outcome::Misread(_, _) | Outcome::OtherNumbers => {
                 spare.clear();
                 spare
             }
