@@ -139,7 +139,8 @@ static double measure(int (*work)(void)) {
 static void measure_ten(void) {
     struct jp_report report;
     make_ten();
-    jp_document_new((const uint8_t *)document, strlen(document), &kept_document, answer, sizeof answer, &report);
+    jp_document_new((const uint8_t *)document, strlen(document), JP_STANDARD, &kept_document, answer, sizeof answer,
+                    &report);
     for (int at = 0; at < TEN; at += 1) {
         jp_query_new((const uint8_t *)ten + at * SIZE, SIZE, JP_STANDARD, &kept_queries[at], &report);
     }

@@ -91,7 +91,7 @@ static void try_row(size_t at) {
     }
     expect(requests == before, "no request for memory", rows[at].query);
     uint8_t room[1];
-    jp_document_new((const uint8_t *)DOCUMENT, strlen(DOCUMENT), &document, room, 0, &report);
+    jp_document_new((const uint8_t *)DOCUMENT, strlen(DOCUMENT), JP_STANDARD, &document, room, 0, &report);
     for (int call = 0; call < 4; call += 1) {
         before = call == 2 ? requests : before;
         uint32_t status = jp_ask_document(&query, &document, rows[at].form, rows[at].from, rows[at].count,
@@ -168,7 +168,8 @@ static void try_refused(void) {
 static void keep_document(const char *document, struct jp_handle *handle) {
     struct jp_report report;
     uint8_t room[1];
-    uint32_t status = jp_document_new((const uint8_t *)document, strlen(document), handle, room, 0, &report);
+    uint32_t status =
+        jp_document_new((const uint8_t *)document, strlen(document), JP_STANDARD, handle, room, 0, &report);
     expect(status == JP_DONE, "a document kept", "");
 }
 

@@ -9,6 +9,9 @@
 
 #define DOCUMENT "{\"a\":[1,[2,{}]]}"
 #define LIST "{\"a\":[7,8]}"
+#define PRICES "[8.95,22.99]"
+/* A digit more than a decimal has. */
+#define DIGITS_39 "123456789012345678901234567890123456789"
 
 /* Limits. */
 #define NONE \
@@ -208,13 +211,13 @@ static void put_sentence_of_document(const char *document, char sentence[96]) {
     struct jp_report report = NINES;
     struct jp_place place;
     memset(sentence, 0, 96);
-    jp_explain_document((const uint8_t *)document, strlen(document), 1, &place, (uint8_t *)sentence, 95, &report);
+    jp_explain_document((const uint8_t *)document, strlen(document), 0, 1, &place, (uint8_t *)sentence, 95, &report);
 }
 
-/* Bytes, the part that is asked for, and the status, the place and the text that are told. */
+/* Bytes, the profile and the part that is asked for, and the status, the place and the text that are told. */
 struct misreading {
     const char *document;
-    uint32_t part, status;
+    uint32_t profile, part, status;
     struct jp_place place;
     const char *text;
 };
@@ -225,8 +228,8 @@ static void expect_misreading(const struct misreading *row) {
     struct jp_place place = {9, 9, 9};
     const struct jp_report expected = {row->status, 0, 0, strlen(row->text), 0};
     memset(out, '#', sizeof out);
-    const uint32_t status = jp_explain_document((const uint8_t *)row->document, strlen(row->document), row->part,
-                                                &place, out, sizeof out, &report);
+    const uint32_t status = jp_explain_document((const uint8_t *)row->document, strlen(row->document), row->profile,
+                                                row->part, &place, out, sizeof out, &report);
     expect_report(status, &report, &expected);
     expect_written(out, sizeof out, row->text);
     expect(place.offset == row->place.offset, "byte");
@@ -241,15 +244,22 @@ static void explains_what_is_no_document(void) {
     snprintf(of_comma, sizeof of_comma, "line 2, column 1: %s\n", comma);
     snprintf(of_fraction, sizeof of_fraction, "line 1, column 9, at $['a'][1]: %s\n", fraction);
     const struct misreading rows[] = {
-        {"[1,\n]", 0, 0, {4, 2, 1}, of_comma},
-        {"[\"\u00e9\",]", 1, 0, {6, 1, 6}, comma},
-        {"{\"a\":[0,2.5]}", 0, 0, {8, 1, 9}, of_fraction},
-        {"[1,\n]", 2, 0, {4, 2, 1}, "TrailingComma"},
-        {"[-0]", 2, 0, {1, 1, 2}, "NegativeZero"},
-        {"[\xff", 2, 0, {1, 1, 2}, "NotUtf8"},
-        {"", 2, 0, {0, 1, 1}, "Empty"},
-        {"[1]", 0, 0, {0, 0, 0}, ""},
-        {"[1,]", 3, 2, {0, 0, 0}, ""},
+        {"[1,\n]", 0, 0, 0, {4, 2, 1}, of_comma},
+        {"[\"\u00e9\",]", 2, 1, 0, {6, 1, 6}, comma},
+        {"{\"a\":[0,2.5]}", 1, 0, 0, {8, 1, 9}, of_fraction},
+        {"{\"a\":[0,2.5]}", 2, 0, 0, {0, 0, 0}, ""},
+        {"[1,\n]", 3, 2, 0, {4, 2, 1}, "TrailingComma"},
+        {"[-0]", 0, 2, 0, {1, 1, 2}, "NegativeZero"},
+        {"[-0]", 3, 2, 0, {0, 0, 0}, ""},
+        {"{\"a\":1.5}", 0, 2, 0, {5, 1, 6}, "HasFraction"},
+        {"{\"a\":1.5}", 2, 2, 0, {0, 0, 0}, ""},
+        {"{\"a\":" DIGITS_39 "}", 2, 2, 0, {5, 1, 6}, "BeyondDecimal"},
+        {"{\"a\":" DIGITS_39 "}", 1, 2, 0, {5, 1, 6}, "OutOfRange"},
+        {"[\xff", 0, 2, 0, {1, 1, 2}, "NotUtf8"},
+        {"", 0, 2, 0, {0, 1, 1}, "Empty"},
+        {"[1]", 0, 0, 0, {0, 0, 0}, ""},
+        {"[1,]", 0, 3, 2, {0, 0, 0}, ""},
+        {"[1,]", 4, 0, 2, {0, 0, 0}, ""},
     };
     for (size_t at = 0; at < COUNT(rows); at += 1) {
         begin(__func__, at);
@@ -428,20 +438,29 @@ static void answers_many_over_no_document(void) {
     expect_many(&row, questions, COUNT(questions));
 }
 
-static void keep_query(const char *query, struct jp_handle *handle) {
+static void keep_query_in(const char *query, uint32_t profile, struct jp_handle *handle) {
     static const struct jp_report expected = DONE(0, 0);
     struct jp_report report = NINES;
-    expect_report(jp_query_new((const uint8_t *)query, strlen(query), 0, handle, &report), &report, &expected);
+    expect_report(jp_query_new((const uint8_t *)query, strlen(query), profile, handle, &report), &report, &expected);
 }
 
-/* Keeps the document of these tests, with no room for a path. */
-static void keep_document(struct jp_handle *handle) {
+static void keep_query(const char *query, struct jp_handle *handle) {
+    keep_query_in(query, 0, handle);
+}
+
+/* Keeps a document, with no room for a path. */
+static void keep_document_in(const char *document, uint32_t profile, struct jp_handle *handle) {
     static const struct jp_report expected = DONE(0, 0);
     struct jp_report report = NINES;
     uint8_t out = '#';
-    expect_report(jp_document_new((const uint8_t *)DOCUMENT, strlen(DOCUMENT), handle, &out, 0, &report), &report,
-                  &expected);
+    expect_report(jp_document_new((const uint8_t *)document, strlen(document), profile, handle, &out, 0, &report),
+                  &report, &expected);
     expect(out == '#', "byte where there is no room");
+}
+
+/* The document of these tests. */
+static void keep_document(struct jp_handle *handle) {
+    keep_document_in(DOCUMENT, 0, handle);
 }
 
 /* What is asked of a document, the report, and the text that is lent. */
@@ -495,7 +514,7 @@ static void keeps_nothing_of_what_is_refused(void) {
     expect(query.full == 0, "handle of a query than an empty one");
     expect_asked(&query, &of_bytes);
     begin(__func__, 1);
-    expect_report(jp_document_new((const uint8_t *)"[2.5]", 5, &document, out, 5, &report), &report, &no_document);
+    expect_report(jp_document_new((const uint8_t *)"[2.5]", 5, 0, &document, out, 5, &report), &report, &no_document);
     expect_written(out, 5, "$[0]");
     expect(document.full == 0, "handle of a document than an empty one");
     keep_query("$", &query);
@@ -711,6 +730,67 @@ static void asks_nothing_of_what_is_not_kept(void) {
     jp_clear(&document);
 }
 
+/* A document that is refused or not read in a profile, which leaves nothing of what the handle kept. */
+static void keeps_no_document_of_what_is_refused(void) {
+    static const struct {
+        const char *document;
+        uint32_t profile;
+        struct jp_report report;
+        const char *text;
+    } rows[] = {
+        {"[1,8.95]", 1, {3, 2, 3, 4, ANY}, "$[1]"},
+        {"[8.95,1e1000001]", 2, {3, 5, 6, 4, ANY}, "$[1]"},
+        {"{\"a\":[8.95," DIGITS_39 "]}", 3, {3, 5, 11, 9, ANY}, "$['a'][1]"},
+        {"[8.95,]", 2, {3, 1, 6, 0, ANY}, ""},
+        {"[8.95]", 4, {2, 0, 0, 0, 0}, ""},
+    };
+    for (size_t at = 0; at < COUNT(rows); at += 1) {
+        struct jp_handle query = JP_EMPTY, document = JP_EMPTY;
+        struct jp_report report = NINES;
+        uint8_t out[] = "#########";
+        begin(__func__, at);
+        keep_query_in("$", 2, &query);
+        keep_document_in(PRICES, 2, &document);
+        const uint32_t status = jp_document_new((const uint8_t *)rows[at].document, strlen(rows[at].document),
+                                                rows[at].profile, &document, out, 9, &report);
+        expect_report(status, &report, &rows[at].report);
+        expect_written(out, 9, rows[at].text);
+        expect(document.full == 0, "handle of a document than an empty one");
+        expect_asked_of_kept(&query, &document, &of_kept);
+        jp_clear(&query);
+        jp_clear(&document);
+    }
+}
+
+/* A query of each profile, asked of a document that was read in each: where their numbers are others nothing is lent,
+ * and both are kept. */
+static void asks_what_is_kept_with_its_numbers(void) {
+    static const struct asking whole = {"$[1]", "[1,2]", 2, 0, 0, NONE, GIVES("$[1]\t2\n", ANY)},
+                               others = {"$[1]", "[1,2]", 2, 0, 0, NONE, TOLD(11, 0), ""},
+                               limited = {"$[1]", "[1,2]", 2, 5, 1, {1, 1, 1}, TOLD(11, 0), ""},
+                               no_form = {"$[1]", "[1,2]", 3, 0, 0, NONE, TOLD(2, 0), ""};
+    for (uint32_t asked = 0; asked < 4; asked += 1) {
+        for (uint32_t read = 0; read < 4; read += 1) {
+            struct jp_handle query = JP_EMPTY, document = JP_EMPTY;
+            const int is_same = (asked < 2) == (read < 2);
+            begin(__func__, 4 * asked + read);
+            keep_query_in(whole.query, asked, &query);
+            keep_document_in(whole.document, read, &document);
+            expect_asked_of_kept(&query, &document, is_same ? &whole : &others);
+            if (!is_same) {
+                expect_asked_of_kept(&query, &document, &limited);
+            }
+            expect_asked_of_kept(&query, &document, &no_form);
+            /* Both are kept: the query is asked of bytes, and the document by another query. */
+            expect_asked(&query, &whole);
+            keep_query_in(whole.query, read, &query);
+            expect_asked_of_kept(&query, &document, &whole);
+            jp_clear(&query);
+            jp_clear(&document);
+        }
+    }
+}
+
 int main(void) {
     writes_each_form();
     reports_why_there_is_no_text();
@@ -736,6 +816,8 @@ int main(void) {
     asks_what_is_kept();
     asks_what_is_kept_again_and_again();
     asks_nothing_of_what_is_not_kept();
+    keeps_no_document_of_what_is_refused();
+    asks_what_is_kept_with_its_numbers();
     printf("calls: %zu rows passed, %zu failed\n", rows_run - rows_failed, rows_failed);
     return rows_failed == 0 ? 0 : 1;
 }

@@ -1,6 +1,6 @@
-/* Tests the profiles whose numbers are exact decimals, by each call that takes a profile, with values by hand: those of
- * RFC 9535's document, numbers that floats do not tell apart, what is too much for a decimal, and the same bytes where
- * numbers are whole. Prints nothing where all is so. */
+/* Tests the profiles whose numbers are exact decimals, by each call that takes a profile and of documents that are kept,
+ * with values by hand: those of RFC 9535's document, numbers that floats do not tell apart, what is too much for a
+ * decimal, and the same bytes where numbers are whole. Prints nothing where all is so. */
 #include "jp.h"
 
 #include <stdio.h>
@@ -56,6 +56,8 @@ static const struct row {
     {"$[?@>9007199254740992]", BEYOND_FLOATS, JP_DECIMAL, JP_DONE, 0, 0,
      "$[0]\t9007199254740993\n$[1]\t9007199254740992.5\n"},
     {"$[?@==9007199254740992.5]", BEYOND_FLOATS, JP_DECIMAL, JP_DONE, 0, 0, "$[1]\t9007199254740992.5\n"},
+    {"$[?@==9007199254740992]", "[9007199254740993,9007199254740992.0]", JP_DECIMAL, JP_DONE, 0, 0,
+     "$[1]\t9007199254740992\n"},
     {"$", "1e400", JP_DECIMAL, JP_DONE, 0, 0, "$\t1e+400\n"},
     {"$[?@<1e400]", "[9e399,1e400]", JP_EXTENDED_DECIMAL, JP_DONE, 0, 0, "$[0]\t9e+399\n"},
     {"$.a[1]", "{\"a\":[1," DIGITS_38 "]}", JP_DECIMAL, JP_DONE, 0, 0,
@@ -87,6 +89,27 @@ static void expect_answer(const struct row *row, const struct jp_report *report,
            row->profile);
 }
 
+/* A row by a kept query, over the document as it is kept in each of the two profiles with the same numbers. */
+static void try_kept_row(const struct row *row, struct jp_handle *query) {
+    const uint32_t profiles[] = {row->profile, row->profile ^ 1};
+    for (int at = 0; at < 2; at += 1) {
+        struct jp_handle document = JP_EMPTY;
+        struct jp_report report;
+        struct jp_text text;
+        uint8_t out[64];
+        const uint32_t status = jp_document_new((const uint8_t *)row->document, strlen(row->document), profiles[at],
+                                                &document, out, sizeof out, &report);
+        for (int call = 0; call < 2 && status == JP_DONE; call += 1) {
+            jp_ask_document(query, &document, JP_BOTH, 0, JP_ALL, &unlimited, &text, &report);
+            expect_answer(row, &report, text.start, "jp_ask_document");
+        }
+        if (status != JP_DONE) {
+            expect_answer(row, &report, out, "jp_document_new");
+        }
+        jp_clear(&document);
+    }
+}
+
 /* A row by each call that takes a query and the bytes of a document. */
 static void try_row(const struct row *row) {
     const uint8_t *query = (const uint8_t *)row->query, *document = (const uint8_t *)row->document;
@@ -107,6 +130,9 @@ static void try_row(const struct row *row) {
         struct jp_report told;
         jp_ask(&kept, document, length, JP_BOTH, 0, JP_ALL, &unlimited, &text, &told);
         expect_answer(row, &told, text.start, "jp_ask");
+    }
+    if (report.status == JP_DONE) {
+        try_kept_row(row, &kept);
     }
     expect(report.status == (row->status == JP_DOCUMENT_REFUSED ? JP_DONE : row->status), "jp_query_new", row->query,
            row->profile);
@@ -148,14 +174,15 @@ static int is_node(const struct jp_node *node, const char *path, const char *val
            && node->value.length == strlen(value) && memcmp(node->value.start, value, node->value.length) == 0;
 }
 
-/* A kept query whose numbers are decimals: by the calls over bytes for one node, and of a document that is kept, which
- * has whole numbers. */
-static void try_kept(void) {
-    static const char query[] = "$[?@>1.5]", fractions[] = "[1.25,1.75]", whole[] = "[1,2]";
+/* A kept query whose numbers are decimals, by the calls for one node: over bytes, and over a document that is kept. */
+static void try_nodes(void) {
+    static const char query[] = "$[?@>1.5]", fractions[] = "[1.25,1.75,2]";
+    static const struct jp_node none = {{NULL, 9}, {NULL, 9}};
     struct jp_handle kept = JP_EMPTY, document = JP_EMPTY;
     struct jp_cursor cursor = JP_START;
     struct jp_report report;
-    struct jp_node node;
+    struct jp_node node = none;
+    struct jp_text lines;
     uint32_t exists = 9;
     uint8_t out[8];
     jp_query_new((const uint8_t *)query, strlen(query), JP_DECIMAL, &kept, &report);
@@ -165,18 +192,97 @@ static void try_kept(void) {
     expect(jp_exists(&kept, (const uint8_t *)fractions, strlen(fractions), JP_NO_LIMIT, &exists, &report) == JP_DONE
                && exists == 1,
            "jp_exists", query, JP_DECIMAL);
-    expect(jp_document_new((const uint8_t *)fractions, strlen(fractions), &document, out, sizeof out, &report)
-                   == JP_DOCUMENT_REFUSED
-               && report.kind == JP_NUMBER_NOT_WHOLE && report.place == 1 && memcmp(out, "$[0]", 4) == 0
-               && !document.full,
-           "jp_document_new", fractions, JP_DECIMAL);
-    jp_document_new((const uint8_t *)whole, strlen(whole), &document, out, sizeof out, &report);
-    expect(jp_next(&cursor, &kept, &document, JP_NO_LIMIT, &node, &report) == JP_DONE && is_node(&node, "$[1]", "2"),
+    jp_document_new((const uint8_t *)fractions, strlen(fractions), JP_EXTENDED_DECIMAL, &document, out, sizeof out,
+                    &report);
+    expect(jp_next(&cursor, &kept, &document, JP_NO_LIMIT, &node, &report) == JP_DONE && is_node(&node, "$[1]", "1.75"),
            "jp_next", query, JP_DECIMAL);
+    expect(jp_next(&cursor, &kept, &document, JP_NO_LIMIT, &node, &report) == JP_DONE && is_node(&node, "$[2]", "2"),
+           "the second by jp_next", query, JP_DECIMAL);
     expect(jp_next(&cursor, &kept, &document, JP_NO_LIMIT, &node, &report) == JP_DONE && node.path.length == 0,
            "no more by jp_next", query, JP_DECIMAL);
+    cursor = (struct jp_cursor)JP_START;
+    expect(jp_next_page(&cursor, &kept, &document, JP_NO_LIMIT, &lines, &report) == JP_DONE && lines.length == 10
+               && memcmp(lines.start, "$[1]\t1.75\n", 10) == 0,
+           "jp_next_page", query, JP_DECIMAL);
     jp_clear(&kept);
     jp_clear(&document);
+}
+
+/* Queries and documents that are kept with other numbers, in both directions: nothing is given, a cursor stands where
+ * it stood, and what is kept is asked of what has the same numbers afterwards. */
+static void try_other_numbers(void) {
+    static const struct {
+        const char *query, *document;
+        uint32_t asked, read;
+    } pairs[] = {
+        {"$.a", "{\"a\":8.95}", JP_STANDARD, JP_DECIMAL},
+        {"$.a", "{\"a\":8.95}", JP_EXTENDED, JP_EXTENDED_DECIMAL},
+        {"$.a", "{\"a\":8}", JP_STANDARD, JP_EXTENDED_DECIMAL},
+        {"$..a", "{\"a\":8}", JP_DECIMAL, JP_STANDARD},
+        {"$[?@<8.95]", "{\"a\":8}", JP_EXTENDED_DECIMAL, JP_EXTENDED},
+        {"$[?@<8.95]", "{\"a\":8}", JP_DECIMAL, JP_EXTENDED},
+    };
+    for (size_t at = 0; at < sizeof pairs / sizeof pairs[0]; at += 1) {
+        const char *query = pairs[at].query;
+        const uint8_t *document = (const uint8_t *)pairs[at].document;
+        struct jp_handle kept = JP_EMPTY, other = JP_EMPTY;
+        struct jp_cursor cursor = JP_START;
+        struct jp_report report;
+        struct jp_node node = {{NULL, 9}, {NULL, 9}};
+        struct jp_text text = {NULL, 9};
+        uint8_t out[8] = "#######";
+        jp_query_new((const uint8_t *)query, strlen(query), pairs[at].asked, &kept, &report);
+        jp_document_new(document, strlen(pairs[at].document), pairs[at].read, &other, out, sizeof out, &report);
+        expect(kept.full && other.full && out[0] == '#', "both are kept", query, pairs[at].read);
+        expect(jp_ask_document(&kept, &other, JP_VALUES, 0, JP_ALL, &unlimited, &text, &report) == JP_OTHER_NUMBERS
+                   && report.status == JP_OTHER_NUMBERS && report.kind == 0 && report.place == 0 && report.length == 0
+                   && report.steps == 0 && text.length == 0,
+               "jp_ask_document of other numbers", query, pairs[at].asked);
+        expect(jp_next(&cursor, &kept, &other, JP_NO_LIMIT, &node, &report) == JP_OTHER_NUMBERS && cursor.given == 0
+                   && node.path.length == 0 && node.value.length == 0,
+               "jp_next of other numbers", query, pairs[at].asked);
+        text.length = 9;
+        expect(jp_next_page(&cursor, &kept, &other, 1, &text, &report) == JP_OTHER_NUMBERS && text.length == 0,
+               "jp_next_page of other numbers", query, pairs[at].asked);
+        jp_query_new((const uint8_t *)"$", 1, pairs[at].read, &kept, &report);
+        expect(jp_ask_document(&kept, &other, JP_VALUES, 0, JP_ALL, &unlimited, &text, &report) == JP_DONE
+                   && text.length == strlen(pairs[at].document) + 1
+                   && memcmp(text.start, document, text.length - 1) == 0,
+               "the document is kept", query, pairs[at].read);
+        jp_clear(&kept);
+        jp_clear(&other);
+    }
+}
+
+/* Why bytes are no document in a profile: the reason, and where. */
+static void try_explanations(void) {
+    static const struct {
+        const char *document;
+        uint32_t profile, status;
+        struct jp_place place;
+        const char *reason;
+    } told[] = {
+        {"{\"a\":1.5}", JP_STANDARD, JP_DONE, {5, 1, 6}, "HasFraction"},
+        {"{\"a\":1.5}", JP_EXTENDED, JP_DONE, {5, 1, 6}, "HasFraction"},
+        {"{\"a\":1.5}", JP_DECIMAL, JP_DONE, {0, 0, 0}, ""},
+        {"{\"a\":1.5}", JP_EXTENDED_DECIMAL, JP_DONE, {0, 0, 0}, ""},
+        {LARGE, JP_DECIMAL, JP_DONE, {8, 1, 9}, "BeyondDecimal"},
+        {LARGE, JP_STANDARD, JP_DONE, {8, 1, 9}, "OutOfRange"},
+        {"[0.5,]", JP_DECIMAL, JP_DONE, {5, 1, 6}, "TrailingComma"},
+        {"[0.5,]", 4, JP_USAGE, {0, 0, 0}, ""},
+    };
+    for (size_t at = 0; at < sizeof told / sizeof told[0]; at += 1) {
+        const size_t length = strlen(told[at].reason);
+        struct jp_place place = {9, 9, 9};
+        struct jp_report report;
+        uint8_t out[32];
+        const uint32_t status =
+            jp_explain_document((const uint8_t *)told[at].document, strlen(told[at].document), told[at].profile,
+                                JP_DOCUMENT_REASON, &place, out, sizeof out, &report);
+        expect(status == told[at].status && report.length == length && memcmp(out, told[at].reason, length) == 0
+                   && memcmp(&place, &told[at].place, sizeof place) == 0,
+               "jp_explain_document", told[at].document, told[at].profile);
+    }
 }
 
 int main(void) {
@@ -184,6 +290,8 @@ int main(void) {
         try_row(&rows[at]);
     }
     try_queries();
-    try_kept();
+    try_nodes();
+    try_other_numbers();
+    try_explanations();
     return failures == 0 ? 0 : 1;
 }

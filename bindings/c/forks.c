@@ -53,7 +53,7 @@ static void ask_anew(void) {
     struct jp_node node;
     uint8_t out[16];
     keep(&query);
-    jp_document_new((const uint8_t *)DOCUMENT, strlen(DOCUMENT), &document, out, sizeof out, &report);
+    jp_document_new((const uint8_t *)DOCUMENT, strlen(DOCUMENT), JP_STANDARD, &document, out, sizeof out, &report);
     do {
         jp_next(&cursor, &query, &document, JP_NO_LIMIT, &node, &report);
     } while (node.path.length > 0);

@@ -26,8 +26,8 @@
  *
  * A query has to be UTF-8, as has a document. Of numbers none is rounded. In the profiles JP_STANDARD and JP_EXTENDED
  * those of a query and of its documents are whole, of 64 bits; in JP_DECIMAL and JP_EXTENDED_DECIMAL they are exact
- * decimals of at most 38 digits, as 8.95 or 1e400. A document that a handle keeps has whole numbers alone, and there a
- * query selects the same nodes in each profile that accepts it.
+ * decimals of at most 38 digits, as 8.95 or 1e400. A handle keeps a document with the numbers of the profile that it was
+ * read in, and a query of a profile with other numbers is not asked of it.
  *
  * A query and a document may have any length for which there is memory: the limits of the program
  * jp, 1 MiB and 16 MiB, are not those of a call. A document of 2^32 bytes or more is refused as
@@ -56,7 +56,7 @@ extern "C" {
 
 /* Made from bindings/numbers.json by `.ci/numbers --write`. */
 
-/* Statuses, as the program jp ends with them, but for the last four, which it has not. */
+/* Statuses, as the program jp ends with them, but for those from 7 on, which it has not. */
 enum {
     JP_DONE = 0,             /* there is an answer */
     JP_QUERY_REFUSED = 1,    /* the report has its kind and its place */
@@ -66,7 +66,8 @@ enum {
     JP_NO_STACK = 7,         /* the thread's stack has too little left, and nothing was done */
     JP_TOO_MANY_NODES = 8,   /* there are more nodes than the limit */
     JP_TOO_MANY_BYTES = 9,   /* the lines of the nodes have more bytes than the limit */
-    JP_STEPS_USED_UP = 10    /* the evaluation needs more steps than the limit */
+    JP_STEPS_USED_UP = 10,   /* the evaluation needs more steps than the limit */
+    JP_OTHER_NUMBERS = 11    /* the kept document was not read with the numbers of the query's profile */
 };
 
 /* What is written of each node, with a newline after it. */
@@ -201,12 +202,12 @@ uint32_t jp_check(const uint8_t *query, size_t query_length, uint32_t profile,
 uint32_t jp_explain(const uint8_t *query, size_t query_length, uint32_t profile, uint32_t part,
                     uint8_t *out, size_t out_length, struct jp_report *report);
 
-/* Why bytes are no document, and where: the place of the first wrong byte, and as text the part that is
- * asked for. The status is JP_DONE, also where there is no text and no place, since they are a document.
- * It is JP_DOCUMENT_REFUSED of 2^32 bytes or more, which are not read. Numbers are to be whole. The names of
+/* Why bytes are no document with the numbers of the profile, and where: the place of the first wrong byte, and as text
+ * the part that is asked for. The status is JP_DONE, also where there is no text and no place, since they are a
+ * document. It is JP_DOCUMENT_REFUSED of 2^32 bytes or more, which are not read. The names of
  * reasons stay, and new ones may come; what sentences say may change. Of JSON Lines, where each line is a document,
  * the reason is AfterValue: ask a query of each line, by jp_ask. */
-uint32_t jp_explain_document(const uint8_t *document, size_t document_length, uint32_t part,
+uint32_t jp_explain_document(const uint8_t *document, size_t document_length, uint32_t profile, uint32_t part,
                              struct jp_place *place,
                              uint8_t *out, size_t out_length, struct jp_report *report);
 
@@ -238,10 +239,11 @@ struct jp_handle {
 uint32_t jp_query_new(const uint8_t *query, size_t query_length, uint32_t profile,
                       struct jp_handle *handle, struct jp_report *report);
 
-/* Keeps the document, whose numbers are whole, in place of what the handle kept. Nothing points to its bytes
- * afterwards. Where it is refused the handle keeps nothing, and the buffer is for the path of a number that is not
- * whole. After JP_NO_STACK the handle keeps what it kept. */
-uint32_t jp_document_new(const uint8_t *document, size_t document_length,
+/* Keeps the document, read with the numbers of the profile, in place of what the handle kept. It is asked by queries of
+ * each profile with these numbers. Nothing points to its bytes afterwards. Where the status is not JP_DONE the handle
+ * keeps nothing, but after JP_NO_STACK what it kept; the buffer is for the path of a number that is not whole, or too
+ * much for a decimal. */
+uint32_t jp_document_new(const uint8_t *document, size_t document_length, uint32_t profile,
                          struct jp_handle *handle,
                          uint8_t *out, size_t out_length, struct jp_report *report);
 
@@ -265,7 +267,8 @@ uint32_t jp_ask(struct jp_handle *query, const uint8_t *document, size_t documen
                 struct jp_text *text, struct jp_report *report);
 
 /* The same of the document that another handle keeps. Both keep what they keep; the text is lent by the
- * query's. */
+ * query's. JP_OTHER_NUMBERS where the document was not read with the numbers of the query's profile: keep one of them
+ * in a profile of the other's numbers. */
 uint32_t jp_ask_document(struct jp_handle *query, struct jp_handle *document,
                          uint32_t form, uint64_t from, uint64_t count, const struct jp_limit *limit,
                          struct jp_text *text, struct jp_report *report);

@@ -84,8 +84,8 @@ static void explain(struct asked *it) {
 
 static void explain_document(struct asked *it) {
     struct jp_place place;
-    it->status = jp_explain_document(it->document.at, it->document.length, JP_DOCUMENT_LINE, &place, it->out.at,
-                                     it->out.length, &it->report);
+    it->status = jp_explain_document(it->document.at, it->document.length, it->profile, JP_DOCUMENT_LINE, &place,
+                                     it->out.at, it->out.length, &it->report);
 }
 
 static void query_new(struct asked *it) {
@@ -93,7 +93,7 @@ static void query_new(struct asked *it) {
 }
 
 static void document_new(struct asked *it) {
-    it->status = jp_document_new(it->document.at, it->document.length, &it->kept_document, it->out.at,
+    it->status = jp_document_new(it->document.at, it->document.length, it->profile, &it->kept_document, it->out.at,
                                  it->out.length, &it->report);
 }
 

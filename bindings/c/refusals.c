@@ -46,7 +46,7 @@ static void go_through(const uint8_t *bytes, size_t length, struct jp_report *re
     uint8_t out[128];
     while (jp_query_new((const uint8_t *)"$..*", 4, JP_STANDARD, &query, &reports[0]) == JP_NO_MEMORY) {
     }
-    while (jp_document_new(bytes, length, &document, out, sizeof out, &reports[0]) == JP_NO_MEMORY) {
+    while (jp_document_new(bytes, length, JP_STANDARD, &document, out, sizeof out, &reports[0]) == JP_NO_MEMORY) {
     }
     for (int at = 0; document.full && at < 3; at += 1) {
         while (jp_next(&cursor, &query, &document, JP_NO_LIMIT, &node, &reports[at]) == JP_NO_MEMORY) {
@@ -89,7 +89,7 @@ static void make_call(int call, const char *document, struct told *told) {
         }
         break;
     case 2:
-        jp_document_new(bytes, length, &handle, out, sizeof out, report);
+        jp_document_new(bytes, length, JP_STANDARD, &handle, out, sizeof out, report);
         jp_clear(&handle);
         break;
     case 3:
@@ -99,7 +99,7 @@ static void make_call(int call, const char *document, struct told *told) {
         go_through(bytes, length, report);
         break;
     default:
-        jp_explain_document(bytes, length, JP_DOCUMENT_LINE, &told->place, out, sizeof out, report);
+        jp_explain_document(bytes, length, JP_STANDARD, JP_DOCUMENT_LINE, &told->place, out, sizeof out, report);
         break;
     }
 }

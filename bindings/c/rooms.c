@@ -190,10 +190,10 @@ static void try_too_large(void) {
                && is_document_refused(&questions[1].report, JP_DOCUMENT_TOO_LARGE)
                && questions[2].report.status == JP_QUERY_REFUSED,
            "too large for many queries", size);
-    jp_document_new(document, size, &handle, out, 0, &report);
+    jp_document_new(document, size, JP_STANDARD, &handle, out, 0, &report);
     expect(is_document_refused(&report, JP_DOCUMENT_TOO_LARGE), "too large to be kept", size);
     struct jp_place place = {9, 9, 9};
-    jp_explain_document(document, size, JP_DOCUMENT_LINE, &place, out, 0, &report);
+    jp_explain_document(document, size, JP_DECIMAL, JP_DOCUMENT_LINE, &place, out, 0, &report);
     expect(is_document_refused(&report, JP_DOCUMENT_TOO_LARGE) && place.offset == 0 && place.line == 0
                && place.column == 0,
            "too large to be explained", size);
@@ -254,8 +254,8 @@ static void try_explanations(void) {
 static void sentence_of_document(const char *document, char out[128]) {
     struct jp_report report;
     struct jp_place place;
-    jp_explain_document((const uint8_t *)document, strlen(document), JP_DOCUMENT_SENTENCE, &place, (uint8_t *)out, 127,
-                        &report);
+    jp_explain_document((const uint8_t *)document, strlen(document), JP_STANDARD, JP_DOCUMENT_SENTENCE, &place,
+                        (uint8_t *)out, 127, &report);
     expect(report.length > 0 && report.length < 128, "a sentence", 127);
     out[report.length < 128 ? report.length : 0] = '\0';
 }
@@ -269,17 +269,19 @@ static void try_documents_explained(void) {
     snprintf(zero_line, sizeof zero_line, "line 1, column 4, at $[1]: %s\n", zero);
     const struct {
         const char *document;
-        uint32_t part, status;
+        uint32_t profile, part, status;
         struct jp_place place;
         const char *text;
     } told[] = {
-        {"[1,\n]", JP_DOCUMENT_LINE, JP_DONE, {4, 2, 1}, comma_line},
-        {"[\"\xc3\xa9\",]", JP_DOCUMENT_SENTENCE, JP_DONE, {6, 1, 6}, comma},
-        {"{\"a\":1", JP_DOCUMENT_REASON, JP_DONE, {6, 1, 7}, "EndInObject"},
-        {"[0,-0]", JP_DOCUMENT_LINE, JP_DONE, {3, 1, 4}, zero_line},
-        {"[\xff", JP_DOCUMENT_REASON, JP_DONE, {1, 1, 2}, "NotUtf8"},
-        {"[1]", JP_DOCUMENT_LINE, JP_DONE, {0, 0, 0}, ""},
-        {"[", 3, JP_USAGE, {0, 0, 0}, ""},
+        {"[1,\n]", JP_STANDARD, JP_DOCUMENT_LINE, JP_DONE, {4, 2, 1}, comma_line},
+        {"[\"\xc3\xa9\",]", JP_EXTENDED, JP_DOCUMENT_SENTENCE, JP_DONE, {6, 1, 6}, comma},
+        {"{\"a\":1", JP_STANDARD, JP_DOCUMENT_REASON, JP_DONE, {6, 1, 7}, "EndInObject"},
+        {"[0,-0]", JP_STANDARD, JP_DOCUMENT_LINE, JP_DONE, {3, 1, 4}, zero_line},
+        {"[0,-0]", JP_DECIMAL, JP_DOCUMENT_LINE, JP_DONE, {0, 0, 0}, ""},
+        {"[\xff", JP_DECIMAL, JP_DOCUMENT_REASON, JP_DONE, {1, 1, 2}, "NotUtf8"},
+        {"[1]", JP_STANDARD, JP_DOCUMENT_LINE, JP_DONE, {0, 0, 0}, ""},
+        {"[", JP_STANDARD, 3, JP_USAGE, {0, 0, 0}, ""},
+        {"[", 4, JP_DOCUMENT_LINE, JP_USAGE, {0, 0, 0}, ""},
     };
     for (size_t at = 0; at < sizeof told / sizeof told[0]; at += 1) {
         for (size_t less = 0; less <= (told[at].text[0] != '\0'); less += 1) {
@@ -287,8 +289,9 @@ static void try_documents_explained(void) {
             uint8_t out[256] = {'#'};
             struct jp_report report = {9, 9, 9, 9, 9};
             struct jp_place place = {9, 9, 9};
-            uint32_t status = jp_explain_document((const uint8_t *)told[at].document, strlen(told[at].document),
-                                                  told[at].part, &place, out, length - less, &report);
+            uint32_t status =
+                jp_explain_document((const uint8_t *)told[at].document, strlen(told[at].document), told[at].profile,
+                                    told[at].part, &place, out, length - less, &report);
             expect(status == report.status, "the status", length - less);
             expect_told(&report, told[at].status, out, told[at].text, less);
             expect(memcmp(&place, &told[at].place, sizeof place) == 0, "the place", length - less);
@@ -362,7 +365,7 @@ static uint32_t keep_document(const char *document, struct jp_handle *handle) {
     /* Bytes that are gone when the call has returned. */
     uint8_t *bytes = malloc(strlen(document) + 1);
     memcpy(bytes, document, strlen(document));
-    uint32_t status = jp_document_new(bytes, strlen(document), handle, out, sizeof out, &report);
+    uint32_t status = jp_document_new(bytes, strlen(document), JP_STANDARD, handle, out, sizeof out, &report);
     free(bytes);
     return status;
 }
@@ -374,7 +377,7 @@ static void try_handles_as(const struct row *row) {
     uint8_t out[64] = {0};
     uint32_t status = jp_query_new((const uint8_t *)row->query, row->query_length, JP_STANDARD, &query, &report);
     if (status == JP_DONE) {
-        status = jp_document_new((const uint8_t *)row->document, row->document_length, &document, out,
+        status = jp_document_new((const uint8_t *)row->document, row->document_length, JP_STANDARD, &document, out,
                                  sizeof out, &report);
     }
     struct jp_text text = {out, report.length};

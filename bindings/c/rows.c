@@ -207,7 +207,7 @@ static void try_handles(const struct field *query, const struct field *document)
     struct jp_report report;
     jp_query_new(query->text, query->length, profile(), &kept_query, &report);
     if (report.status == JP_DONE) {
-        jp_document_new(document->text, document->length, &kept_document, out, ROOM, &report);
+        jp_document_new(document->text, document->length, profile(), &kept_document, out, ROOM, &report);
         if (report.status != JP_DONE) {
             expect_answer(&report, out, JP_PATHS, "jp_document_new");
         }
@@ -235,7 +235,7 @@ static void try_document_told(const struct field *document) {
     struct jp_report report;
     struct jp_place place;
     for (size_t at = 0; at < sizeof parts / sizeof parts[0]; at += 1) {
-        jp_explain_document(document->text, document->length, parts[at].part, &place, out, ROOM, &report);
+        jp_explain_document(document->text, document->length, profile(), parts[at].part, &place, out, ROOM, &report);
         expect(agrees(parts[at].name, out, report.length), parts[at].name, "jp_explain_document");
         expect(place.offset == number("place", place.offset) && place.line == number("line", place.line)
                    && place.column == number("column", place.column),

@@ -257,13 +257,14 @@ uint32_t jp_explain(const uint8_t *query, size_t query_length, uint32_t profile,
 }
 
 PROVED(explain_document);
-uint32_t jp_explain_document(const uint8_t *document, size_t document_length, uint32_t part, struct jp_place *place,
+uint32_t jp_explain_document(const uint8_t *document, size_t document_length, uint32_t profile, uint32_t part,
+                             struct jp_place *place,
                              uint8_t *out, size_t out_length, struct jp_report *report) {
     if (IS_SHORT(DOCUMENT, depth_of_document(document, document_length))) {
         *place = (struct jp_place){0, 0, 0};
         return no_stack(report);
     }
-    return proved_jp_explain_document(document, document_length, part, place, out, out_length, report);
+    return proved_jp_explain_document(document, document_length, profile, part, place, out, out_length, report);
 }
 
 PROVED(kind_name);
@@ -289,7 +290,7 @@ uint32_t jp_query_new(const uint8_t *query, size_t query_length, uint32_t profil
 }
 
 PROVED(document_new);
-uint32_t jp_document_new(const uint8_t *document, size_t document_length,
+uint32_t jp_document_new(const uint8_t *document, size_t document_length, uint32_t profile,
                          struct jp_handle *handle,
                          uint8_t *out, size_t out_length, struct jp_report *report) {
     /* Where there is room enough a document is not looked through, and taken to be as deep as any. */
@@ -300,7 +301,8 @@ uint32_t jp_document_new(const uint8_t *document, size_t document_length,
     if (IS_SHORT(DOCUMENT, deeper(depth, depth_freed(handle)))) {
         return no_stack(report);
     }
-    const uint32_t status = proved_jp_document_new(document, document_length, handle, out, out_length, report);
+    const uint32_t status =
+        proved_jp_document_new(document, document_length, profile, handle, out, out_length, report);
     /* It is read, and what is asked of it reads none of it. */
     depth.levels = 0;
     note_depth(handle, depth);

@@ -12,7 +12,8 @@ static void query_new(const struct jp_go_call *it, struct jp_go_told *told) {
 }
 
 static void document_new(const struct jp_go_call *it, struct jp_go_told *told) {
-    jp_document_new(it->document, it->document_length, it->handle, it->out, it->out_length, &told->report);
+    jp_document_new(it->document, it->document_length, it->profile, it->handle, it->out, it->out_length,
+                    &told->report);
 }
 
 static void ask(const struct jp_go_call *it, struct jp_go_told *told) {
@@ -48,7 +49,7 @@ static void explain(const struct jp_go_call *it, struct jp_go_told *told) {
 }
 
 static void explain_document(const struct jp_go_call *it, struct jp_go_told *told) {
-    jp_explain_document(it->document, it->document_length, it->part, &told->place, it->out, it->out_length,
+    jp_explain_document(it->document, it->document_length, it->profile, it->part, &told->place, it->out, it->out_length,
                         &told->report);
 }
 

@@ -202,8 +202,11 @@ func ofQuery(call C.uint32_t, query []byte, extended bool) C.struct_jp_go_call {
 	return made
 }
 
+// ofDocument is of a document of whole numbers.
 func ofDocument(call C.uint32_t, document []byte) C.struct_jp_go_call {
-	return C.struct_jp_go_call{call: call, document: start(document), document_length: C.size_t(len(document))}
+	made := C.struct_jp_go_call{call: call, document: start(document), document_length: C.size_t(len(document))}
+	made.profile = C.JP_STANDARD
+	return made
 }
 
 func (l Limit) inC() C.struct_jp_limit {

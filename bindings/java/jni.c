@@ -127,12 +127,13 @@ static void write_explanation(struct asked *asked, uint8_t *out, size_t room, st
 }
 
 static void write_misreading(struct asked *asked, uint8_t *out, size_t room, struct jp_report *report) {
-    jp_explain_document(asked->bytes.start, asked->bytes.length, asked->part, &asked->place, out, room, report);
+    jp_explain_document(asked->bytes.start, asked->bytes.length, asked->number, asked->part, &asked->place, out, room,
+                        report);
 }
 
 /* What is written is the path of a number that is not whole. */
 static void write_path(struct asked *asked, uint8_t *out, size_t room, struct jp_report *report) {
-    jp_document_new(asked->bytes.start, asked->bytes.length, asked->handle, out, room, report);
+    jp_document_new(asked->bytes.start, asked->bytes.length, asked->number, asked->handle, out, room, report);
 }
 
 /* Where the thread's stack begins, from its lowest byte on, and ends, once that was asked. */
@@ -204,7 +205,7 @@ JNIEXPORT void JNICALL Java_jsonpath_jp_Engine_keepQuery(JNIEnv *env, jclass typ
 JNIEXPORT jbyteArray JNICALL Java_jsonpath_jp_Engine_keepDocument(JNIEnv *env, jclass type, jlong handle,
                                                                   jbyteArray document, jlongArray told) {
     (void)type;
-    struct asked asked = {copied(env, document), 0, 0, handle_at(handle), {0, 0, 0}};
+    struct asked asked = {copied(env, document), JP_STANDARD, 0, handle_at(handle), {0, 0, 0}};
     return written(env, write_path, &asked, told);
 }
 
@@ -225,7 +226,7 @@ JNIEXPORT jbyteArray JNICALL Java_jsonpath_jp_Engine_explain(JNIEnv *env, jclass
 JNIEXPORT jbyteArray JNICALL Java_jsonpath_jp_Engine_explainDocument(JNIEnv *env, jclass type, jbyteArray document,
                                                                      jint part, jlongArray place, jlongArray told) {
     (void)type;
-    struct asked asked = {copied(env, document), 0, (uint32_t)part, NULL, {0, 0, 0}};
+    struct asked asked = {copied(env, document), JP_STANDARD, (uint32_t)part, NULL, {0, 0, 0}};
     const jbyteArray text = written(env, write_misreading, &asked, told);
     if ((*env)->ExceptionCheck(env) == JNI_FALSE) {
         const jlong fields[] = {(jlong)asked.place.offset, (jlong)asked.place.line, (jlong)asked.place.column};

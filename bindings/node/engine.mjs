@@ -4,7 +4,9 @@
  */
 
 import { Instance, NO_MEMORY_TEXT } from "./instance.mjs";
-import { DOCUMENT_REASON, DOCUMENT_SENTENCE, DONE, NO_LIMIT, NO_MEMORY, SENTENCE, SUGGESTION } from "./numbers.mjs";
+import {
+  DOCUMENT_REASON, DOCUMENT_SENTENCE, DONE, NO_LIMIT, NO_MEMORY, SENTENCE, STANDARD, SUGGESTION,
+} from "./numbers.mjs";
 import { textOf } from "./texts.mjs";
 
 /** Which nodes are asked for: how many are passed over, and how many of the others are given, where 0 is all. */
@@ -150,7 +152,7 @@ export class Engine {
     let place;
     const { status, text } = this.#run((instance) => {
       const call = (bytes, told) =>
-        instance.exports.jp_explain_document(...bytes, part, instance.placeAddress, ...told);
+        instance.exports.jp_explain_document(...bytes, STANDARD, part, instance.placeAddress, ...told);
       const outcome = instance.write([document], call);
       place = instance.placeTold();
       return outcome;
@@ -253,5 +255,7 @@ function readQuery(instance, { bytes, profile }, handle) {
 }
 
 function readDocument(instance, { bytes }, handle) {
-  return instance.write([bytes], (document, told) => instance.exports.jp_document_new(...document, handle, ...told));
+  return instance.write([bytes], (document, told) =>
+    instance.exports.jp_document_new(...document, STANDARD, handle, ...told),
+  );
 }

@@ -9,6 +9,7 @@ export const NO_STACK = 7;
 export const TOO_MANY_NODES = 8;
 export const TOO_MANY_BYTES = 9;
 export const STEPS_USED_UP = 10;
+export const OTHER_NUMBERS = 11;
 
 export const VALUES = 0;
 export const PATHS = 1;

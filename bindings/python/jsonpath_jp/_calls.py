@@ -180,7 +180,7 @@ def _is_of_lines(before: bytes) -> bool:
 
 
 def _part_of_misreading(document: bytes, part: int, place: Place) -> Optional[str]:
-    report, text = told(library.jp_explain_document, document, len(document), part, place)
+    report, text = told(library.jp_explain_document, document, len(document), _numbers.STANDARD, part, place)
     if report.status == _numbers.NO_MEMORY:
         raise MemoryError(_NO_MEMORY_TEXT)
     return text if report.status == _numbers.DONE else None

@@ -29,7 +29,7 @@ class _Reading:
         self.handle = Handle()
         self.lock = threading.Lock()
         self.forks = forks[0]
-        arguments = (text, len(text), self.handle)
+        arguments = (text, len(text), _numbers.STANDARD, self.handle)
         raised(answer_of(library.jp_document_new, "", _numbers.STANDARD, *arguments, document=text))
 
     def is_lost(self) -> bool:

@@ -19,6 +19,7 @@ pub(crate) mod status {
     pub(crate) const TOO_MANY_NODES: u32 = 8;
     pub(crate) const TOO_MANY_BYTES: u32 = 9;
     pub(crate) const STEPS_USED_UP: u32 = 10;
+    pub(crate) const OTHER_NUMBERS: u32 = 11;
 }
 
 pub(crate) mod form {

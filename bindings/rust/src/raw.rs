@@ -3,7 +3,7 @@
 //! Slices are never null, and are borrowed as C uses them: what is read is shared, and what is written is
 //! exclusive. So nothing more is owed than that no two calls use a handle at once, which takes `&mut Handle`.
 
-use crate::numbers::{self, status};
+use crate::numbers::{self, profile, status};
 use crate::query::Span;
 use std::ffi::c_void;
 use std::io;
@@ -106,11 +106,11 @@ extern "C" {
         query: *const u8, query_length: usize, profile: u32, handle: *mut Handle, report: *mut Report,
     ) -> u32;
     fn jp_document_new(
-        document: *const u8, document_length: usize, handle: *mut Handle,
+        document: *const u8, document_length: usize, profile: u32, handle: *mut Handle,
         out: *mut u8, out_length: usize, report: *mut Report,
     ) -> u32;
     fn jp_explain_document(
-        document: *const u8, document_length: usize, part: u32, place: *mut Place,
+        document: *const u8, document_length: usize, profile: u32, part: u32, place: *mut Place,
         out: *mut u8, out_length: usize, report: *mut Report,
     ) -> u32;
     fn jp_ask(
@@ -220,6 +220,7 @@ pub(crate) fn explain_document(document: &[u8], part: u32) -> (Place, String) {
             jp_explain_document(
                 document.as_ptr(),
                 document.len(),
+                profile::STANDARD,
                 part,
                 &mut place,
                 out,
@@ -255,7 +256,15 @@ impl Handle {
         written(|out, length, report| {
             // SAFETY: each pointer is to as many bytes as the length beside it says, and the handle is ours.
             unsafe {
-                jp_document_new(document.as_ptr(), document.len(), self, out, length, report);
+                jp_document_new(
+                    document.as_ptr(),
+                    document.len(),
+                    profile::STANDARD,
+                    self,
+                    out,
+                    length,
+                    report,
+                );
             }
         })
     }

@@ -21,15 +21,14 @@ use Rattle.jsonpath.specs.declared.fault.FindFault.{FindFault}
 use Rattle.jsonpath.specs.declared.fault.FindFault.TheVariants.{Query, Document, DocumentTooLarge}
 use Rattle.jsonpath.specs.declared.fault.FindFault.TheVariants.{NoMemory, StepsUsedUp}
 use Rattle.jsonpath.specs.declared.fault.FindFault.TheVariants.{TooManyNodes, TooManyBytes}
-use Rattle.jp_c.specs.Asking.{IsAskDocumentOutcome, IsAskOutcome, IsAskedOf, IsNoAnswerOf, answer_of, nodes_asked}
-use Rattle.jp_c.specs.Handles.{document_kept}
+use Rattle.jp_c.specs.Asking.{IsAskDocumentOutcome, IsAskOutcome, IsAskedOf, IsKeptFor, IsNoAnswerOf, answer_of}
+use Rattle.jp_c.specs.Asking.{nodes_asked}
 use Rattle.jp_c.specs.Limit.{MakesSteps, Within, most_of, output_within}
-use Rattle.jp_c.specs.Private.Askers.{IsValueOutcome}
 use Rattle.jp_c.specs.Private.Placing.{IsPlaced, IsTold}
 use Rattle.jp_c.specs.declared.kept.Kept.{Kept}
 use Rattle.jp_c.specs.declared.limit.Limit.{Limit}
 use Rattle.jp_c.specs.declared.outcome.Outcome as outcome
-use Rattle.jp_c.specs.declared.outcome.Outcome.TheVariants.{Text, Usage, Fault, Misread}
+use Rattle.jp_c.specs.declared.outcome.Outcome.TheVariants.{Text, Fault, Misread}
 
 -- a document of which nothing is given has no answer
 pub given-none : (from count : ℕ) (f : Form) (p : Profile) (q : QueryTree) (bytes : List ℕ) (most : OutputLimit)
@@ -114,28 +113,15 @@ module _ (limit : Limit) (form from count : ℕ) (query : Option Kept) (f : Form
       (subst (λ x. MakesSteps limit.steps x made) same makes))
       (subst (λ x. IsPlaced (numbers p) bytes x b) same placed)
 
-pub told_of_value : (most : OutputLimit) (form from count : ℕ) (query : Option Kept) (f : Form) (p : Profile)
+pub told_of_document : (most : OutputLimit) (form from count : ℕ) (query document : Option Kept) (f : Form) (p : Profile)
     (q : QueryTree) (text : String Global) (answer : Result (Unit {0}) FindFault) (o : outcome.Outcome) (d : Value)
-    → IsAskedOf form query f p q
+    → IsAskedOf form query f p q → IsKeptFor p document d
     → MatchResult answer (λ _. o ≡ Text text) (λ fault. o ≡ Fault fault)
     → OnOk answer (string_bytes text ≡ answer_of from count f q d)
     → OnOk answer (StaysWithin most (length (nodes_asked from count q d)) (length (string_bytes text)))
     → IfErr answer (IsGivenUp most (length (nodes_asked from count q d)) (length (answer_of from count f q d)))
-    → IsValueOutcome form from count query d most o
-told_of_value most form from count query f p q text (Ok u) o d is same here within none =
-    subst (IsValueOutcome form from count query d most) (sym same) (f, p, q, is, here, within)
-told_of_value most form from count query f p q text (Err fault) o d is same here within none =
-    subst (IsValueOutcome form from count query d most) (sym same) (f, p, q, is, none)
-
--- what is asked of a document is asked of what keeps it
-pub asked_of_document : (form from count : ℕ) (query document : Option Kept) (d : Value) (most : OutputLimit)
-    (o : outcome.Outcome) → document_kept document ≡ Some d
-    → IsValueOutcome form from count query d most o
     → IsAskDocumentOutcome form from count query document most o
-asked_of_document form from count query document d most (Text text) there is =
-    (is.0, is.1, is.2, d, is.3, there, is.4, is.5)
-asked_of_document form from count query document d most Usage there (inl none) = inl none
-asked_of_document form from count query document d most Usage there (inr none) = inr (inl none)
-asked_of_document form from count query document d most (Misread fault place) there is = absurd is
-asked_of_document form from count query document d most (Fault fault) there is =
-    (is.0, is.1, is.2, d, is.3, there, is.4)
+told_of_document most form from count query document f p q text (Ok u) o d is kept same here within none =
+    subst (IsAskDocumentOutcome form from count query document most) (sym same) (f, p, q, d, is, kept, here, within)
+told_of_document most form from count query document f p q text (Err fault) o d is kept same here within none =
+    subst (IsAskDocumentOutcome form from count query document most) (sym same) (f, p, q, d, is, kept, none)

@@ -9,7 +9,7 @@ use Rattle.jp_c.specs.Calls.{IsEvalOutcome}
 use Rattle.jp_c.specs.Limit.{IsWithin, MakesSteps, Within}
 use Rattle.jp_c.specs.declared.limit.Limit.{Limit}
 use Rattle.jp_c.specs.declared.outcome.Outcome as outcome
-use Rattle.jp_c.specs.declared.outcome.Outcome.TheVariants.{Text, Usage, Fault, Misread}
+use Rattle.jp_c.specs.declared.outcome.Outcome.TheVariants.{Text, Usage, Fault, Misread, OtherNumbers}
 
 no_memory : (f p : ℕ) (query document : List ℕ) (most : OutputLimit) (o : outcome.Outcome)
     → IsEvalOutcome f p query document most o → o ≢ Usage
@@ -18,6 +18,7 @@ no_memory f p query document most (Text text) is not = (is.0, is.1, is.2, is.3, 
 no_memory f p query document most Usage is not = absurd (not refl)
 no_memory f p query document most (Fault fault) is not = (is.0, is.1, is.2, is.3, tt, tt)
 no_memory f p query document most (Misread fault place) is not = (is.0, is.1, is.2, is.3, tt, tt)
+no_memory f p query document most OtherNumbers is not = absurd is
 
 -- whatever was made keeps to the limit
 makes-within : (limit steps : ℕ) (o : outcome.Outcome) → MakesSteps limit o steps
@@ -32,6 +33,7 @@ makes-within limit steps (Fault (Document f)) makes = λ _. omega (arith, makes)
 makes-within limit steps (Fault DocumentTooLarge) makes = λ _. omega (arith, makes)
 makes-within limit steps (Misread f place) makes = λ _. omega (arith, makes)
 makes-within limit steps Usage makes = λ _. omega (arith, makes)
+makes-within limit steps OtherNumbers makes = λ _. omega (arith, makes)
 
 -- an outcome, or running out of memory in place of one that is told of a form and a profile
 pub kept_or_none : (limit : Limit) (f p : ℕ) (query document : List ℕ) (o kept : outcome.Outcome) (steps : ℕ)

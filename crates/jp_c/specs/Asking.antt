@@ -1,5 +1,5 @@
 -- What is asked with a query that is kept, and how the answer is lent.
-use Rattle.std.specs.Prelude.{◌≡◌, ◌⊎◌, ℕ, List, [], Option, None, Some, String, length, string_bytes}
+use Rattle.std.specs.Prelude.{◌≡◌, ◌≢◌, ◌⊎◌, ℕ, List, [], Option, None, Some, String, length, string_bytes}
 use Rattle.std.specs.String.{string_vec}
 use Rattle.std.specs.Vec.{vec_ptr}
 use Rattle.std.specs.declared.alloc.Global.{Global}
@@ -8,6 +8,7 @@ use Rattle.jp_check.specs.declared.profile.Profile.{Profile}
 use Rattle.jp_command.specs.Lines.{lines_of}
 use Rattle.jp_command.specs.Selecting.{nodes_behind}
 use Rattle.jp_command.specs.declared.form.Form.{Form}
+use Rattle.jp_decimal.specs.declared.numbers.Numbers.{Numbers}
 use Rattle.jp_document.specs.Exact.{IsDocumentIn}
 use Rattle.jp_document.specs.Node.{Node}
 use Rattle.jp_document.specs.Value.{Value}
@@ -21,7 +22,7 @@ use Rattle.jsonpath.specs.declared.fault.FindFault.{FindFault}
 use Rattle.jsonpath.specs.declared.fault.FindFault.TheVariants as find
 use Rattle.jp_c.specs.Asked.{IsNoDocument}
 use Rattle.jp_c.specs.Calls.{IsPlaceless}
-use Rattle.jp_c.specs.Handles.{document_kept, profile_kept, query_kept}
+use Rattle.jp_c.specs.Handles.{document_kept, numbers_kept, profile_kept, query_kept}
 use Rattle.jp_c.specs.Limit.{most_of}
 use Rattle.jp_c.specs.Misread.{IsMisreadAt}
 use Rattle.jp_c.specs.Numbers.{form_of}
@@ -30,7 +31,7 @@ use Rattle.jp_c.specs.declared.kept.Kept.{Kept}
 use Rattle.jp_c.specs.declared.kept.Kept.TheVariants as kept
 use Rattle.jp_c.specs.declared.lent.Lent.{Lent}
 use Rattle.jp_c.specs.declared.outcome.Outcome as outcome
-use Rattle.jp_c.specs.declared.outcome.Outcome.TheVariants.{Text, Usage, Fault, Misread}
+use Rattle.jp_c.specs.declared.outcome.Outcome.TheVariants.{Text, Usage, Fault, Misread, OtherNumbers}
 use Rattle.jp_c.specs.declared.outcome.Report.{Report}
 
 -- the nodes that the query selects in the document behind the first `from` ones: so many of them, of 0 all
@@ -81,22 +82,31 @@ IsAskOutcome form from count query bytes most (Fault fault) =
 IsAskOutcome form from count query bytes most (Misread fault place) =
     (f : Form) × (p : Profile) × (q : QueryTree) × IsAskedOf form query f p q
     × IsNoDocument (numbers p) bytes (find.Document fault) × IsMisreadAt (numbers p) bytes place
+IsAskOutcome form from count query bytes most OtherNumbers = ⊥
 
--- of `jp_ask_document`: the same of the document that another handle keeps
+-- the handle keeps that document, read with the numbers of the profile
+pub record IsKeptFor (p : Profile) (document : Option Kept) (d : Value) : Type 0 where
+  pub document_is : document_kept document ≡ Some d
+  pub numbers_are : numbers_kept document ≡ Some (numbers p)
+
+-- of `jp_ask_document`: the same of the document that another handle keeps, which was read with the numbers of the
+-- profile of the query; or it was read with others
 abbrev pub IsAskDocumentOutcome : ℕ → ℕ → ℕ → Option Kept → Option Kept → OutputLimit
     → outcome.Outcome → Type 0
 IsAskDocumentOutcome form from count query document most (Text text) =
     (f : Form) × (p : Profile) × (q : QueryTree) × (d : Value) × IsAskedOf form query f p q
-    × (document_kept document ≡ Some d)
-    × (string_bytes text ≡ answer_of from count f q d)
+    × IsKeptFor p document d × (string_bytes text ≡ answer_of from count f q d)
     × StaysWithin most (length (nodes_asked from count q d)) (length (string_bytes text))
 IsAskDocumentOutcome form from count query document most Usage =
     (form_of form ≡ None) ⊎ (query_kept query ≡ None) ⊎ (document_kept document ≡ None)
 IsAskDocumentOutcome form from count query document most (Fault fault) =
     (f : Form) × (p : Profile) × (q : QueryTree) × (d : Value) × IsAskedOf form query f p q
-    × (document_kept document ≡ Some d)
+    × IsKeptFor p document d
     × IsGivenUp most (length (nodes_asked from count q d)) (length (answer_of from count f q d)) fault
 IsAskDocumentOutcome form from count query document most (Misread fault place) = ⊥
+IsAskDocumentOutcome form from count query document most OtherNumbers =
+    (f : Form) × (p : Profile) × (q : QueryTree) × (n : Numbers) × IsAskedOf form query f p q
+    × (numbers_kept document ≡ Some n) × (numbers p ≢ n)
 
 -- the text that is kept with a query, as the answer of the last call
 abbrev pub text_kept : Option Kept → Option (String Global)

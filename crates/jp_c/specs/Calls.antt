@@ -19,7 +19,7 @@ use Rattle.jp_c.specs.declared.explained.Part.{Part}
 use Rattle.jp_c.specs.declared.misread.DocumentPart.{DocumentPart}
 use Rattle.jp_c.specs.declared.misread.Place.{Place}
 use Rattle.jp_c.specs.declared.outcome.Outcome as outcome
-use Rattle.jp_c.specs.declared.outcome.Outcome.TheVariants.{Text, Usage, Fault, Misread}
+use Rattle.jp_c.specs.declared.outcome.Outcome.TheVariants.{Text, Usage, Fault, Misread, OtherNumbers}
 
 -- a fault that is told without a place in the document: any but that of bytes that are none
 abbrev pub IsPlaceless : FindFault → Type 0
@@ -45,12 +45,14 @@ IsEvalOutcome form profile query document most (Fault fault) =
 IsEvalOutcome form profile query document most (Misread fault place) =
     (f : Form) × (p : Profile) × (form_of form ≡ Some f) × (profile_of profile ≡ Some p)
     × IsNoAnswer most p f query document (Document fault) × IsMisreadAt (numbers p) document place
+IsEvalOutcome form profile query document most OtherNumbers = ⊥
 
 -- of `jp_canon`: the canonical text, or why there is none
 abbrev pub IsCanonOutcome : ℕ → List ℕ → outcome.Outcome → Type 0
 IsCanonOutcome profile query (Text text) =
     (p : Profile) × (profile_of profile ≡ Some p) × IsCanonOf p query (string_bytes text)
 IsCanonOutcome profile query (Misread fault place) = ⊥
+IsCanonOutcome profile query OtherNumbers = ⊥
 IsCanonOutcome profile query Usage = profile_of profile ≡ None
 IsCanonOutcome profile query (Fault fault) =
     (p : Profile) × (profile_of profile ≡ Some p) × IsQueryFault p query fault
@@ -61,6 +63,7 @@ IsCheckOutcome profile query (Text text) =
     (p : Profile) × (q : QueryTree) × (profile_of profile ≡ Some p) × IsAcceptedInBytes p query q
     × (string_bytes text ≡ [])
 IsCheckOutcome profile query (Misread fault place) = ⊥
+IsCheckOutcome profile query OtherNumbers = ⊥
 IsCheckOutcome profile query Usage = profile_of profile ≡ None
 IsCheckOutcome profile query (Fault fault) =
     (p : Profile) × (profile_of profile ≡ Some p) × IsQueryFault p query fault
@@ -71,6 +74,7 @@ IsExplainOutcome profile part query (Text text) =
     (p : Profile) × (t : Part) × (profile_of profile ≡ Some p) × (part_of part ≡ Some t)
     × Explains p t query (string_bytes text)
 IsExplainOutcome profile part query (Misread fault place) = ⊥
+IsExplainOutcome profile part query OtherNumbers = ⊥
 IsExplainOutcome profile part query Usage =
     (profile_of profile ≡ None) ⊎ (part_of part ≡ None)
 IsExplainOutcome profile part query (Fault fault) =
@@ -82,18 +86,21 @@ IsExplainOutcome profile part query (Fault fault) =
 abbrev pub IsNameOutcome : ℕ → ℕ → outcome.Outcome → Type 0
 IsNameOutcome status kind (Text text) = IsKindName status kind (string_bytes text)
 IsNameOutcome status kind (Misread fault place) = ⊥
+IsNameOutcome status kind OtherNumbers = ⊥
 IsNameOutcome status kind Usage = (name : List ℕ) → ¬ IsKindName status kind name
 IsNameOutcome status kind (Fault fault) =
     ((name : List ℕ) × IsKindName status kind name) × (fault ≡ NoMemory)
 
--- of `jp_explain_document`: that part of why the bytes are no document, and where; or they are too many;
--- or memory ran out
-abbrev pub IsMisreadOutcome : ℕ → List ℕ → outcome.Outcome → Place → Type 0
-IsMisreadOutcome part document (Text text) place =
-    (t : DocumentPart) × (document_part_of part ≡ Some t) × Fits document
-    × ExplainsDocument t document (string_bytes text) place
-IsMisreadOutcome part document Usage place = (document_part_of part ≡ None) × (place ≡ nowhere)
-IsMisreadOutcome part document (Fault fault) place =
-    (t : DocumentPart) × (document_part_of part ≡ Some t) × (place ≡ nowhere)
-    × ((fault ≡ NoMemory) ⊎ ((fault ≡ DocumentTooLarge) × IsTooLarge document))
-IsMisreadOutcome part document (Misread fault place) told = ⊥
+-- of `jp_explain_document`: that part of why the bytes are no document with the numbers of the profile, and where; or
+-- no profile or no part has that number; or they are too many; or memory ran out
+abbrev pub IsMisreadOutcome : ℕ → ℕ → List ℕ → outcome.Outcome → Place → Type 0
+IsMisreadOutcome profile part document (Text text) place =
+    (p : Profile) × (t : DocumentPart) × (profile_of profile ≡ Some p) × (document_part_of part ≡ Some t)
+    × Fits document × ExplainsDocument (numbers p) t document (string_bytes text) place
+IsMisreadOutcome profile part document Usage place =
+    ((profile_of profile ≡ None) ⊎ (document_part_of part ≡ None)) × (place ≡ nowhere)
+IsMisreadOutcome profile part document (Fault fault) place =
+    (p : Profile) × (t : DocumentPart) × (profile_of profile ≡ Some p) × (document_part_of part ≡ Some t)
+    × (place ≡ nowhere) × ((fault ≡ NoMemory) ⊎ ((fault ≡ DocumentTooLarge) × IsTooLarge document))
+IsMisreadOutcome profile part document (Misread fault place) told = ⊥
+IsMisreadOutcome profile part document OtherNumbers place = ⊥

@@ -1,9 +1,8 @@
 -- Where bytes that are no document go wrong, and what is told of them.
 use Rattle.std.specs.Prelude.{◌≡◌, ℕ, List, [], ◌++◌, codes}
-use Rattle.jp_document.specs.Document.{IsDocument}
-use Rattle.jp_document.specs.Value.{Value}
 use Rattle.jp_decimal.specs.declared.numbers.Numbers.{Numbers}
-use Rattle.jp_decimal.specs.declared.numbers.Numbers.TheVariants.{Whole}
+use Rattle.jp_document.specs.Exact.{IsDocumentIn}
+use Rattle.jp_document.specs.Value.{Value}
 use Rattle.jp_json.specs.Misreading.{IsMisreading}
 use Rattle.jp_json.specs.Names.{name_of}
 use Rattle.jp_json.specs.Told.{misreading_text}
@@ -30,16 +29,16 @@ part_text Line m = misreading_text m ++ codes "\n"
 part_text Sentence m = m.sentence.now
 part_text Reason m = name_of m.reason
 
--- the bytes, which are to be a document of whole numbers, are misread so, and what is told is that part of the
+-- the bytes, which are to be a document with such numbers, are misread so, and what is told is that part of the
 -- misreading, and its place
-pub record TellsMisreading (part : DocumentPart) (bytes told : List ℕ) (place : Place) : Type 0 where
+pub record TellsMisreading (n : Numbers) (part : DocumentPart) (bytes told : List ℕ) (place : Place) : Type 0 where
   pub m : Misreading
-  pub is : IsMisreading Whole bytes m
+  pub is : IsMisreading n bytes m
   pub text : told ≡ part_text part m
   pub at : place ≡ place_of_misreading m
 
--- why the bytes are no document is told, and where; or they are one, and nothing is told
-pub data ExplainsDocument (part : DocumentPart) (bytes told : List ℕ) (place : Place) : Type 0 where
-  misread : TellsMisreading part bytes told place → ExplainsDocument part bytes told place
-  document : (v : Value) → IsDocument bytes v → told ≡ [] → place ≡ nowhere
-      → ExplainsDocument part bytes told place
+-- why the bytes are no document with such numbers is told, and where; or they are one, and nothing is told
+pub data ExplainsDocument (n : Numbers) (part : DocumentPart) (bytes told : List ℕ) (place : Place) : Type 0 where
+  misread : TellsMisreading n part bytes told place → ExplainsDocument n part bytes told place
+  document : (v : Value) → IsDocumentIn n bytes v → told ≡ [] → place ≡ nowhere
+      → ExplainsDocument n part bytes told place

@@ -6,7 +6,7 @@ use Rattle.jp_document.specs.declared.fault.DocumentFault.TheVariants.{NotWhole,
 use Rattle.jp_query.specs.Refusal.{number_of}
 use Rattle.jsonpath.specs.declared.fault.FindFault.TheVariants as find
 use Rattle.jp_c.specs.declared.outcome.Outcome as outcome
-use Rattle.jp_c.specs.declared.outcome.Outcome.TheVariants.{Text, Usage, Fault, Misread}
+use Rattle.jp_c.specs.declared.outcome.Outcome.TheVariants.{Text, Usage, Fault, Misread, OtherNumbers}
 use Rattle.jp_c.specs.declared.outcome.Report.{Report}
 
 -- the status, by which a caller tells what happened
@@ -21,6 +21,7 @@ status_of (Fault find.NoMemory) = 4
 status_of (Fault find.StepsUsedUp) = 10
 status_of (Fault find.TooManyNodes) = 8
 status_of (Fault find.TooManyBytes) = 9
+status_of OtherNumbers = 11
 
 -- the number of a query's refusal or of a document's fault, of which that it is too large is the next
 -- after those of its bytes

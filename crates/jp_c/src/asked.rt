@@ -3,9 +3,8 @@
 ghost use Rattle.std.specs.Prelude.{◌≡◌, ◌⊎◌, IfErr, IfOk, length, string_bytes};
 ghost use Rattle.jp_command.specs.Lines.{output_of};
 ghost use Rattle.std.specs.Str.{IsUtf8};
-ghost use Rattle.jp_decimal.specs.declared.numbers.Numbers.TheVariants.{Whole};
 ghost use Rattle.jp_check.specs.Numbers.{numbers};
-ghost use Rattle.jp_document.specs.Document.{IsDocument};
+ghost use Rattle.jp_document.specs.Exact.{IsDocumentIn};
 ghost use Rattle.jp_evaluate.specs.Nodelist.{nodelist};
 ghost use Rattle.jp_evaluate.specs.Plan.{HoldsPortion, IsReadToAnswer};
 ghost use Rattle.jp_flat.specs.FlatValue.{document_in, lent_flat};
@@ -82,14 +81,18 @@ fn read_text(alloc: Global, text: &str, profile: Profile) -> Result<Checked, Ref
     read_query(alloc, text, profile)
 }
 
-/// The document of whole numbers that these bytes are, in tables.
-pub(crate) fn read_document(alloc: Global, bytes: &[u8]) -> Result<Flat<'_>, FindFault>
+/// The document with such numbers that these bytes are, in tables.
+pub(crate) fn read_document(
+    alloc: Global,
+    bytes: &[u8],
+    numbers: Numbers,
+) -> Result<Flat<'_>, FindFault>
     ensures document { IfOk result
-        (λ flat. IsDocument bytes.now (document_in flat) × Fits bytes.now) }
-    ensures fault { IfErr result (IsNoDocument Whole bytes.now) }
+        (λ flat. IsDocumentIn numbers bytes.now (document_in flat) × Fits bytes.now) }
+    ensures fault { IfErr result (IsNoDocument numbers bytes.now) }
 {
     check_size(bytes)?;
-    Ok(read_flat(alloc, bytes, Numbers::Whole)?)
+    Ok(read_flat(alloc, bytes, numbers)?)
 }
 
 /// The document with such numbers that these bytes are, of which what the plan does not ask for may be left

@@ -3,18 +3,17 @@
 ghost use Rattle.std.specs.Prelude.{◌≡◌, [], IfErr, IfOk, None, Some};
 ghost use Rattle.jp_c.specs.Asked.{IsAcceptedInBytes, IsNoDocument, IsQueryFault};
 ghost use Rattle.jp_c.specs.Handles.{IsDocumentMade, IsQueryMade, document_kept, kept_by};
-ghost use Rattle.jp_c.specs.Handles.{profile_kept, query_kept};
+ghost use Rattle.jp_c.specs.Handles.{numbers_kept, profile_kept, query_kept};
 ghost use Rattle.jp_c.specs.Limit.{AtOnce};
 ghost use Rattle.jp_c.specs.Outcome.{Answers};
-ghost use Rattle.jp_decimal.specs.declared.numbers.Numbers.TheVariants.{Whole};
-ghost use Rattle.jp_document.specs.Document.{IsDocument};
+ghost use Rattle.jp_document.specs.Exact.{IsDocumentIn};
 ghost use Rattle.jsonpath.specs.Size.{Fits};
 ghost use Rattle.jp_tree.specs.Tree.{QueryTree};
 ghost use Rattle.jp_document.specs.Value.{Value};
 
 use crate::asked::{asked, read_document};
 use crate::handle::Handle;
-use crate::kept::{Asker, Kept};
+use crate::kept::{Asker, Kept, KeptDocument};
 use crate::numbers::profile;
 use crate::outcome::{Answered, Outcome, Report, tell};
 use crate::refused::refused;
@@ -65,44 +64,52 @@ fn kept_query(alloc: Global, query: &[u8], profile: Profile) -> Result<Handle, F
     Ok(Handle::keep(alloc, Kept::Query(asker))?)
 }
 
-/// Keeps the document of whole numbers in place of what the handle kept; where it is refused the handle keeps
-/// nothing, and the buffer gets the path of the first number that is not whole. Answers the report's status.
+/// Keeps the document, read with the numbers of the profile of this number, and these with it, in place of what the
+/// handle kept; where it is refused the handle keeps nothing, and the buffer gets the path of the first number that
+/// is not whole, or of decimals out of range. Answers the report's status.
 #[unsafe(no_mangle)]
 pub extern "C" fn jp_document_new(
     alloc: Global,
     document: &[u8],
+    profile: u32,
     handle: &mut Handle,
     out: &mut [u8],
     report: &mut Report,
 ) -> u32
-    ensures { Answers (AtOnce (λ o. IsDocumentMade document.now o (kept_by handle.new))) out.old
-        out.new report.new result }
+    ensures { Answers (AtOnce (λ o. IsDocumentMade profile document.now o (kept_by handle.new)))
+        out.old out.new report.new result }
 {
-    let (outcome, made) = document_made(alloc, document);
+    let (outcome, made) = document_made(alloc, document, profile);
     *handle = made;
     tell(&Answered::at_once(outcome), out, report)
 }
 
 /// The outcome of keeping a document, and the handle that keeps it.
-fn document_made(alloc: Global, document: &[u8]) -> (Outcome, Handle)
-    ensures { IsDocumentMade document.now result.0 (kept_by result.1) }
+fn document_made(alloc: Global, document: &[u8], profile_number: u32) -> (Outcome, Handle)
+    ensures { IsDocumentMade profile_number document.now result.0 (kept_by result.1) }
 {
-    match kept_document(alloc, document) {
+    let Some(profile) = profile(profile_number) else {
+        return (Outcome::Usage, Handle::empty(alloc));
+    };
+    let numbers = profile.numbers();
+    match kept_document(alloc, document, numbers) {
         Ok(made) => (Outcome::Text(String::new(alloc)), made),
         Err(fault) => (
-            refused(alloc, fault, document, Numbers::Whole, None),
+            refused(alloc, fault, document, numbers, None),
             Handle::empty(alloc),
         ),
     }
 }
 
-/// A handle that keeps the document.
-fn kept_document(alloc: Global, document: &[u8]) -> Result<Handle, FindFault>
-    ensures kept { IfOk result (λ h. (d : Value) × IsDocument document.now d × Fits document.now
-        × (document_kept (kept_by h) ≡ Some d)) }
-    ensures fault { IfErr result (IsNoDocument Whole document.now) }
+/// A handle that keeps the document with such numbers.
+fn kept_document(alloc: Global, document: &[u8], numbers: Numbers) -> Result<Handle, FindFault>
+    ensures kept { IfOk result (λ h. (d : Value) × IsDocumentIn numbers document.now d
+        × Fits document.now × (document_kept (kept_by h) ≡ Some d)) }
+    ensures numbers { IfOk result (λ h. numbers_kept (kept_by h) ≡ Some numbers) }
+    ensures fault { IfErr result (IsNoDocument numbers document.now) }
 {
-    let document = read_document(alloc, document)?.owned(alloc)?;
+    let flat = read_document(alloc, document, numbers)?.owned(alloc)?;
+    let document = KeptDocument { flat, numbers };
     Ok(Handle::keep(alloc, Kept::Document(document))?)
 }
 

@@ -42,7 +42,7 @@ pub use exports::{VERSION, jp_canon, jp_check, jp_eval, jp_version};
 pub use handle::Handle;
 pub use held::Held;
 pub use keeping::{jp_clear, jp_document_new, jp_query_new};
-pub use kept::{Asker, Kept};
+pub use kept::{Asker, Kept, KeptDocument};
 pub use lent::Lent;
 pub use limit::Limit;
 pub use many::{Question, jp_eval_many};

@@ -1,6 +1,6 @@
 //! What the numbers that C gives stand for.
 
-ghost use Rattle.std.specs.Prelude.{◌≡◌, ◌≢◌, IfSome, None};
+ghost use Rattle.std.specs.Prelude.{◌≡◌, ◌≢◌, IfSome, None, false, true};
 ghost use Rattle.jp_c.specs.Numbers.{document_part_of, form_of, part_of, profile_of};
 ghost use Rattle.jp_c.specs.Private.Subjects.{numbers_in};
 ghost use Rattle.jp_document.specs.Faults.{document_fault_number};
@@ -49,6 +49,17 @@ pub(crate) fn numbers_of_profile(number: u32) -> Numbers
     match profile(number) {
         Some(profile) => profile.numbers(),
         None => Numbers::Whole,
+    }
+}
+
+/// Whether both are the same numbers.
+pub(crate) fn are_same(one: Numbers, other: Numbers) -> bool
+    ensures same { result ≡ true → one ≡ other }
+    ensures others { result ≡ false → one ≢ other }
+{
+    match one {
+        Numbers::Whole => matches!(other, Numbers::Whole),
+        Numbers::Decimal => matches!(other, Numbers::Decimal),
     }
 }
 

@@ -25,6 +25,8 @@ pub enum Outcome {
     Fault(FindFault),
     /// The bytes are no document, and go wrong at this one.
     Misread(DocumentFault, usize),
+    /// The kept document was not read with the numbers of the query's profile.
+    OtherNumbers,
 }
 
 /// An outcome, and how many steps were made for it.
@@ -39,7 +41,7 @@ pub(crate) struct Answered {
 #[derive(Debug, Clone, Copy, PartialEq, Eq)]
 pub struct Report {
     /// 0 done, 1 query refused, 2 usage, 3 document refused, 4 want of memory, 8 too many nodes, 9 too many bytes,
-    /// 10 steps used up.
+    /// 10 steps used up, 11 document not read with the numbers of the query's profile.
     pub status: u32,
     /// The number of the query's kind of refusal or of the document's fault, else 0.
     pub kind: u32,
@@ -63,7 +65,8 @@ impl Outcome {
             Outcome::Misread(DocumentFault::NotWhole(path), _) => path.as_str(),
             Outcome::Fault(FindFault::Document(DocumentFault::NumberRange(path))) => path.as_str(),
             Outcome::Misread(DocumentFault::NumberRange(path), _) => path.as_str(),
-            Outcome::Usage | Outcome::Fault(_) | Outcome::Misread(_, _) => "",
+            Outcome::Usage | Outcome::Fault(_) | Outcome::Misread(_, _) | Outcome::OtherNumbers =>
+                "",
         }
     }
 
@@ -78,7 +81,7 @@ impl Outcome {
             Outcome::Misread(DocumentFault::NotWhole(path), _) => path,
             Outcome::Fault(FindFault::Document(DocumentFault::NumberRange(path))) => path,
             Outcome::Misread(DocumentFault::NumberRange(path), _) => path,
-            Outcome::Usage | Outcome::Fault(_) | Outcome::Misread(_, _) => {
+            Outcome::Usage | Outcome::Fault(_) | Outcome::Misread(_, _) | Outcome::OtherNumbers => {
                 spare.clear();
                 spare
             }
@@ -103,6 +106,7 @@ impl Outcome {
             Outcome::Fault(FindFault::StepsUsedUp) => (10, 0, 0),
             Outcome::Fault(FindFault::TooManyNodes) => (8, 0, 0),
             Outcome::Fault(FindFault::TooManyBytes) => (9, 0, 0),
+            Outcome::OtherNumbers => (11, 0, 0),
         };
         Report {
             status,

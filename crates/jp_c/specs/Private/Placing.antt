@@ -8,7 +8,7 @@ use Rattle.jsonpath.specs.declared.fault.FindFault.TheVariants.{NoMemory, StepsU
 use Rattle.jsonpath.specs.declared.fault.FindFault.TheVariants.{TooManyNodes, TooManyBytes}
 use Rattle.jp_c.specs.Misread.{IsMisreadAt}
 use Rattle.jp_c.specs.declared.outcome.Outcome as outcome
-use Rattle.jp_c.specs.declared.outcome.Outcome.TheVariants.{Text, Usage, Fault, Misread}
+use Rattle.jp_c.specs.declared.outcome.Outcome.TheVariants.{Text, Usage, Fault, Misread, OtherNumbers}
 
 -- a fault of the document is one that its bytes have, which are to be one with such numbers
 abbrev pub IsOfBytes : Numbers → List ℕ → FindFault → Type 0
@@ -37,6 +37,7 @@ HasOfBytes n bytes (Fault fault) = IsOfBytes n bytes fault
 HasOfBytes n bytes (Text text) = Unit {0}
 HasOfBytes n bytes Usage = Unit {0}
 HasOfBytes n bytes (Misread f place) = Unit {0}
+HasOfBytes n bytes OtherNumbers = Unit {0}
 
 -- the outcome with its fault as it is told
 abbrev pub IsPlaced : Numbers → List ℕ → outcome.Outcome → outcome.Outcome → Type 0
@@ -44,3 +45,4 @@ IsPlaced n bytes (Fault fault) o = IsTold n bytes fault o
 IsPlaced n bytes (Text text) o = o ≡ Text text
 IsPlaced n bytes Usage o = o ≡ Usage
 IsPlaced n bytes (Misread f place) o = o ≡ Misread f place
+IsPlaced n bytes OtherNumbers o = o ≡ OtherNumbers

@@ -11,6 +11,7 @@ final class Numbers {
     static final int TOO_MANY_NODES = 8;
     static final int TOO_MANY_BYTES = 9;
     static final int STEPS_USED_UP = 10;
+    static final int OTHER_NUMBERS = 11;
     static final int VALUES = 0;
     static final int PATHS = 1;
     static final int BOTH = 2;
