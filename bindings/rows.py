@@ -8,11 +8,10 @@ rows.jsonl has a row a line, an object, behind a head that counts them. A row sa
 answered; what it does not say of the answer is not looked at.
 
     from        where it comes from
-    profile     Standard or Extended
+    profile     Standard or Extended, or of decimals Decimal or ExtendedDecimal
     query       the query's text
     document    the document's text, or where that is no UTF-8:
     bytes       the document in hexadecimal digits; without either only the query is read
-    numbers     how the document's numbers are read; without it they are whole
     paths       of the nodes in their order, normalized
     values      of the same nodes, each as its compact text
     canonical   the canonical text of the query
@@ -37,7 +36,7 @@ import sys
 
 FILE = os.path.join(os.path.dirname(os.path.realpath(__file__)), "rows.jsonl")
 FIELDS = (
-    "from", "profile", "query", "document", "bytes", "numbers", "paths", "values", "canonical", "refused", "kind",
+    "from", "profile", "query", "document", "bytes", "paths", "values", "canonical", "refused", "kind",
     "place", "line", "column", "at", "reason", "sentence", "suggestion", "not",
 )
 
@@ -78,7 +77,7 @@ def _words(row):
     for name in ("paths", "values"):
         for text in row.get(name, ()):
             yield name.removesuffix("s"), text
-    for name in ("numbers", *FIELDS[FIELDS.index("canonical"):FIELDS.index("not")]):
+    for name in FIELDS[FIELDS.index("canonical"):FIELDS.index("not")]:
         if name in row:
             yield name, row[name]
     for language in row.get("not", ()):
