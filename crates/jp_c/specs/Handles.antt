@@ -52,8 +52,8 @@ IsQueryMade profile query (Text text) now =
     × (string_bytes text ≡ []) × (query_kept now ≡ Some q) × (profile_kept now ≡ Some p)
 IsQueryMade profile query o now = IsCheckOutcome profile query o × (now ≡ None)
 
--- of `jp_document_new`: the bytes are a document with the numbers of the profile, which is kept with these; or no profile
--- has that number, or why the bytes are none, and where, and nothing is kept
+-- of `jp_document_new`: the bytes are a document with the numbers of the profile, which is kept with these; or no
+-- profile has that number, or why the bytes are none, and where, and nothing is kept
 abbrev pub IsDocumentMade : ℕ → List ℕ → outcome.Outcome → Option Kept → Type 0
 IsDocumentMade profile bytes (Text text) now =
     (p : Profile) × (d : Value) × (profile_of profile ≡ Some p) × IsDocumentIn (numbers p) bytes d × Fits bytes

@@ -60,8 +60,8 @@ pub extern "C" fn jp_ask(
 /// Asks the query that one handle keeps of the document that the other does: a line for each node behind the
 /// first `from` ones, or for as many of these as `count` says, where 0 is all. The text is lent from the
 /// query's handle until its next call; both handles keep what they keep. Answers the report's status: 2 where
-/// a handle keeps nothing or the other of the two, 11 where the document was read with other numbers than those of the
-/// query's profile, 8, 9 and 10 as of `jp_ask`.
+/// a handle keeps nothing or the other of the two, 11 where the document was read with other numbers than those of
+/// the query's profile, 8, 9 and 10 as of `jp_ask`.
 #[unsafe(no_mangle)]
 pub extern "C" fn jp_ask_document(
     alloc: Global,

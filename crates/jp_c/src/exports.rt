@@ -25,8 +25,8 @@ pub extern "C" fn jp_version() -> u32
 /// Writes a line for each node that the query selects in the document, in the nodelist's order (RFC
 /// 9535 section 2.1.2), in the form (0 values, 1 normalized paths, 2 both with a tab between) and
 /// the profile (0 `Standard`, 1 `Extended`, 2 `Decimal`, 3 `ExtendedDecimal`) of these numbers, within the limit.
-/// Answers the report's status: 10 where the evaluation needs more steps, 8 where there are more nodes and 9 where their
-/// lines have more bytes.
+/// Answers the report's status: 10 where the evaluation needs more steps, 8 where there are more nodes and 9 where
+/// their lines have more bytes.
 #[unsafe(no_mangle)]
 pub extern "C" fn jp_eval(
     alloc: Global,
