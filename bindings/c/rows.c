@@ -102,8 +102,15 @@ static int agrees(const char *name, const uint8_t *text, size_t length) {
     return field == NULL || (field->length == length && memcmp(field->text, text, length) == 0);
 }
 
+/* The profiles by their numbers. */
+static const char *const profiles[] = {"Standard", "Extended", "Decimal", "ExtendedDecimal"};
+
 static uint32_t profile(void) {
-    return is("profile", "Extended") ? JP_EXTENDED : JP_STANDARD;
+    uint32_t number = JP_STANDARD;
+    while (number < JP_EXTENDED_DECIMAL && !is("profile", profiles[number])) {
+        number++;
+    }
+    return number;
 }
 
 /* Writes the lines of the nodes, and gives their length. */
