@@ -138,7 +138,8 @@ fn comparison(alloc: Global, cut: Cut<'_>) -> Mended {
 
 /// The opposite of a comparison, which is the comparison in parentheses behind the `!` that it has before its
 /// left side; where it is not plain how far the right side goes, `==` is `!=`.
-fn opposite(alloc: Global, before: &[char], Cut { front, rest }: Cut<'_>) -> Mended {
+fn opposite<'t>(alloc: Global, before: &'t [char], cut: Cut<'t>) -> Mended {
+    let Cut { front, rest } = cut;
     let (_, left) = front.split_at(before.len().min(front.len()));
     let after = past_sign(rest);
     if let Some(behind) = past_side(past_blanks(after)) {
