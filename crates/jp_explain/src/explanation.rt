@@ -6,7 +6,7 @@ ghost use Rattle.jp_explain.specs.Explanation.{IsPlacedAt};
 ghost use Rattle.jp_reading.specs.Sentences.{is_sentence};
 ghost use Rattle.jp_explain.specs.Suggestion.{IsSuggested, IsSuggestedExpression};
 
-use crate::expression::{as_query, expression_suggestion};
+use crate::expression::{as_query, expression_suggestion, is_file};
 use crate::place::{characters, line_after, line_before, line_feeds, split_at_byte, starting};
 use crate::reason::Reason;
 use crate::reasons::reason_of;
@@ -69,7 +69,7 @@ pub fn explain(
 ///
 /// It is explained as the same expression would be in a query that has but the one filter with it. The place
 /// and its line are those of the expression's own text, and a suggestion is an expression, which is read
-/// as one before it is told. The only error is that memory ran out.
+/// as one before it is told. A file's name is told as such. The only error is that memory ran out.
 pub fn explain_expression(
     alloc: Global,
     text: &str,
@@ -82,6 +82,10 @@ pub fn explain_expression(
     ensures suggestion { IfOk result (λ e.
         IfSome e.suggestion (λ text. IsSuggestedExpression profile (chars (string_bytes text)))) }
 {
+    if is_file(alloc, text, refusal)? {
+        let reason = Reason::FileFirst;
+        return placed(alloc, text, refusal.place, reason, surroundings, None);
+    }
     let (query, within) = as_query(alloc, text, refusal)?;
     let suggestion = expression_suggestion(alloc, query.as_str(), profile, within)?;
     let reason = reason_at(alloc, query.as_str(), profile, within)?;

@@ -7,7 +7,9 @@ ghost use Rattle.jp_explain.specs.Shown.{is_hidden};
 ghost use Rattle.jp_explain.specs.Suggestion.{IsSuggestedExpression};
 
 use crate::marks::{has_more, is_inside, is_quoted};
+use crate::mends::cuts::has;
 use crate::place::{characters, split_at_byte};
+use crate::reasons::is_file_name;
 use crate::shown::has_hidden;
 use crate::suggestion::suggestion;
 use crate::written::write_word;
@@ -44,6 +46,14 @@ pub(crate) fn as_query(
 /// Whether a bracket, a parenthesis or a quotation mark is open at the end of the text.
 fn is_open(text: &[char]) -> bool {
     is_inside(text) || has_more(text, "(", ")") || is_quoted(text)
+}
+
+/// Whether the expression is refused as what a file of documents may be called: a name such as `a.json`, without a
+/// sign of expressions.
+pub(crate) fn is_file(alloc: Global, text: &str, refusal: Refusal) -> Result<bool, AllocError> {
+    let name = characters(alloc, text)?;
+    let is_syntax = refusal.kind == RefusalKind::Syntax;
+    Ok(is_syntax && is_file_name(&name) && !has(&name, "@$ =<>!&|()[]'\"?"))
 }
 
 /// An expression that is accepted in the profile: that of the query, which is refused so, with its slips

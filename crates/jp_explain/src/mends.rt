@@ -9,7 +9,7 @@ ghost use Rattle.std.specs.List.{flat_map};
 ghost use Rattle.std.specs.Str.{chars};
 ghost use Rattle.jp_explain.specs.Private.Pieces.{piece_text};
 
-mod cuts;
+pub(crate) mod cuts;
 mod ends;
 mod names;
 mod numbers;

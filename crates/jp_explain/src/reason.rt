@@ -16,6 +16,8 @@ pub enum Reason {
     ShellNumber,
     /// The name of a file where the query is wanted.
     FileName,
+    /// The name of a file where an expression is wanted.
+    FileFirst,
     /// A dot where `$` is wanted: jq's form, or what a shell leaves of `"$x.b"`.
     ShellDot,
     /// `@` where `$` is wanted.
@@ -24,7 +26,7 @@ pub enum Reason {
     Braces,
     /// Quotation marks around the query.
     Quoted,
-    /// jq's `//`, with a default behind it.
+    /// `//`, `||` or `??` behind a path, with a default.
     Alternative,
     /// A slash between names.
     Slash,
@@ -50,7 +52,7 @@ pub enum Reason {
     Equals,
     /// `<>`.
     Unequal,
-    /// `.5`.
+    /// `.5` or `-.5`.
     DotNumber,
     /// `last()` or a script such as `(@.length-1)` in brackets.
     LastItem,
@@ -72,7 +74,7 @@ pub enum Reason {
     LoneLiteral,
     /// A text without quotes.
     TextQuotes,
-    /// A member's name alone in a filter.
+    /// A member's name alone in a filter, or with but a dot before it.
     MissingAt,
     /// A filter without `?`.
     MissingQuestionMark,
@@ -108,7 +110,7 @@ pub enum Reason {
     InnerQuote,
     /// `]` without its `[`.
     StrayBracket,
-    /// `1,000`.
+    /// `1,000` or `1_000`.
     Thousands,
     /// A digit after a `0` that begins a number.
     LeadingZero,
@@ -142,7 +144,7 @@ pub enum Reason {
     Operator,
     /// `;` in brackets.
     Semicolon,
-    /// `?` after something else than `[` or a comma in brackets.
+    /// `?` after something else than `[` or a comma in brackets, or between blanks outside of them.
     Ternary,
     /// `**`.
     DoubleStar,
@@ -229,6 +231,9 @@ impl Reason {
             Reason::FileName => {
                 "A query begins with `$`, and stands before the names of files."
             },
+            Reason::FileFirst => {
+                "An expression, such as `@.name == 1`, stands before the names of files."
+            },
             Reason::ShellNumber => {
                 "A query begins with `$`; the shell makes a number of \"$[0]\", so put the query in single quotes."
             },
@@ -264,6 +269,9 @@ impl Reason {
                 "A query begins with `$`: no blank, newline or invisible character may stand before it."
             },
             Reason::FileName => "A query begins with `$`: this looks like the name of a file.",
+            Reason::FileFirst => {
+                "An expression is a test, such as `@.name == 1`: this looks like the name of a file."
+            },
             Reason::ShellNumber => {
                 "A query begins with `$`: an index stands behind it in brackets, as in `$[0]`."
             },
@@ -276,7 +284,7 @@ impl Reason {
                 "A query begins with `$`: quotation marks around it are no part of it."
             },
             Reason::Alternative => {
-                "There is no `//` with a default: a path to nothing selects nothing."
+                "There is no default behind `//`, `||` or `??`: a path to nothing selects nothing."
             },
             Reason::Slash => {
                 "Names are separated by dots or stand in brackets: there are no slashes between them."
@@ -302,7 +310,7 @@ impl Reason {
             },
             Reason::Equals => "Values are compared with `==` and `!=`.",
             Reason::Unequal => "`<>` is written `!=`.",
-            Reason::DotNumber => "A number does not begin with a dot.",
+            Reason::DotNumber => "A number does not begin with a dot: .5 is written 0.5.",
             Reason::LastItem => "A negative index counts from the end: `[-1]` is the last item.",
             Reason::BracketName => "A name in brackets needs quotes.",
             Reason::And => "`and` is written `&&`.",
@@ -338,7 +346,9 @@ impl Reason {
                 "A function is called in filters alone, before its argument, as in `length(@.name)`."
             },
             Reason::Optional => "No `?` is needed here: a path to nothing selects nothing.",
-            Reason::Pipe => "There are no pipes: a query is one path.",
+            Reason::Pipe => {
+                "There are no pipes: a query is one path, and jq's `.a | .b` is written `$.a.b`."
+            },
             Reason::Union => {
                 "A query is one path: several names or indexes stand in one pair of brackets, as in `[\"a\", \"b\"]`."
             },
@@ -351,11 +361,13 @@ impl Reason {
                 "The quotation mark before this ends the text: one is missing, or this one needs `\\` before it."
             }
             Reason::StrayBracket => "This `]` closes nothing.",
-            Reason::Thousands => "No comma stands between the digits of a number.",
+            Reason::Thousands => {
+                "Nothing stands between the digits of a number: 1,000 is written 1000."
+            },
             Reason::LeadingZero => "A number does not begin with `0`, unless it is 0.",
             Reason::Plus => "A number has no `+` before it.",
             Reason::MinusZero => "The index 0 has no `-` before it.",
-            Reason::LoneMinus => "A number comes right after a `-`.",
+            Reason::LoneMinus => "A number comes right after a `-`, as in -1.",
             Reason::IndexForm => {
                 "An index is a whole number, and a slice is written `[0:2]`, which selects the items 0 and 1."
             },

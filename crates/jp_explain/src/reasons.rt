@@ -5,6 +5,7 @@ use crate::marks::{
     before_name, begins, begins_as, begins_in, ends, ends_as, ends_in, ends_in_one, has_more, is,
     is_inside, is_quoted, last_name, name_at, stem, without_first, without_last, without_name,
 };
+use crate::mends::cuts::{cut_at, cut_digits, has};
 use crate::reason::Reason;
 use jp_decimal::Numbers;
 use jp_query::RefusalKind;
@@ -15,11 +16,11 @@ const SYNTAX_REASONS: [Reason; 81] = [
     Reason::BlankFirst,
     Reason::FileName,
     Reason::ShellNumber,
+    Reason::Alternative,
     Reason::ShellDot,
     Reason::CurrentNode,
     Reason::Braces,
     Reason::Quoted,
-    Reason::Alternative,
     Reason::Slash,
     Reason::MissingDollar,
     Reason::BlankLast,
@@ -191,10 +192,8 @@ fn has_mark(reason: Reason, front: &[char], rest: &[char]) -> bool {
         Reason::Braces => front.is_empty() && begins(rest, "{"),
         Reason::Quoted => front.is_empty()
             && (begins_in(rest, "'\"") || begins_as(rest, Class::Quote)),
-        Reason::Alternative => {
-            begins(rest, "//") && ends_as(front, Class::Blank) && !is_inside(front)
-        }
-        Reason::Slash => begins(rest, "/") && !is_inside(front),
+        Reason::Alternative => is_alternative(front, rest) || is_jq_alternative(front, rest),
+        Reason::Slash => begins(rest, "/") && (!is_inside(front) || is_path_name(front, rest)),
         Reason::MissingDollar => front.is_empty(),
         Reason::BlankLast => rest.is_empty() && !is_inside(front) && ends_as(front, Class::Unseen),
         Reason::Unclosed => rest.is_empty() && is_inside(front) && !wants_more(front),
@@ -214,7 +213,9 @@ fn has_mark(reason: Reason, front: &[char], rest: &[char]) -> bool {
         Reason::NotAmong => is_not_among(front, rest),
         Reason::AnyOf => is_operator(front, rest, "anyof", "anyOf"),
         Reason::Contains => is_operator(front, rest, "contains", "CONTAINS"),
-        Reason::Affix => is_behind_blank(front) && is_affix_name(name_at(rest)),
+        Reason::Affix => {
+            (is_behind_blank(front) && is_affix_name(name_at(rest))) || is_affix_call(front, rest)
+        }
         Reason::Like => is_operator(front, rest, "like", "LIKE"),
         Reason::Matches => is_behind_blank(front) && is_matching_name(name_at(rest)),
         Reason::And => ends_in_one(front, "&") || is_operator(front, rest, "and", "AND"),
@@ -239,7 +240,7 @@ fn has_mark(reason: Reason, front: &[char], rest: &[char]) -> bool {
         Reason::DotDigit => ends(front, ".") && begins_as(rest, Class::Digit),
         Reason::OddName => is_odd_name(front, rest),
         Reason::Call => begins(rest, "(") && ends_as(front, Class::Name),
-        Reason::Optional => begins(rest, "?") && !is_inside(front),
+        Reason::Optional => begins(rest, "?") && !is_inside(front) && !is_apart(front, rest),
         Reason::Pipe => (begins(rest, "|") && !is_inside(front))
             || (is_inside(front) && ends_in_one(front, "|") && is_piped(rest)),
         Reason::Union => begins(rest, ",") && !is_inside(front),
@@ -250,7 +251,11 @@ fn has_mark(reason: Reason, front: &[char], rest: &[char]) -> bool {
             && begins_as(rest, Class::NameFirst),
         Reason::InnerQuote => ends_in(front, "'\"") && begins_as(rest, Class::NameFirst),
         Reason::StrayBracket => begins(rest, "]") && !is_inside(front),
-        Reason::Thousands => is_thousands(front, rest),
+        Reason::Thousands => {
+            is_thousands(front, rest)
+                || is_comma_number(front, rest)
+                || is_comma_fraction(front, rest)
+        }
         Reason::LeadingZero => ends(front, "0") && begins_as(rest, Class::Digit),
         Reason::Plus => begins(rest, "+") && ends_in(stem(front), "[,:=<>("),
         Reason::MinusZero => ends(front, "-") && begins(rest, "0"),
@@ -264,7 +269,7 @@ fn has_mark(reason: Reason, front: &[char], rest: &[char]) -> bool {
             && ends_as(front, Class::Blank)
             && begins_as(rest, Class::NameFirst),
         Reason::Semicolon => begins(rest, ";") && is_inside(front),
-        Reason::Ternary => begins(rest, "?") && is_inside(front),
+        Reason::Ternary => begins(rest, "?") && (is_inside(front) || is_apart(front, rest)),
         Reason::DoubleStar => ends(front, "*") && begins(rest, "*"),
         Reason::NoWayUp => begins_in(rest, "^~") && !is_inside(front),
         Reason::Comparison => begins_in(rest, "=<>!") && is_inside(front),
@@ -347,7 +352,7 @@ fn is_lone_literal(front: &[char], rest: &[char]) -> bool {
 }
 
 /// Whether a selector is wanted after it, and not an argument of a function.
-fn wants_selector(front: &[char]) -> bool {
+pub(crate) fn wants_selector(front: &[char]) -> bool {
     begins_selector(front) && !has_more(front, "(", ")")
 }
 
@@ -375,9 +380,14 @@ fn is_text(front: &[char], rest: &[char]) -> bool {
             && !begins(rest, "("))
 }
 
-/// Whether a name is, or was begun, where a test begins.
+/// Whether a name is, or was begun, where a test begins, perhaps with a dot before it.
 fn is_member(front: &[char], rest: &[char]) -> bool {
-    (begins_test(stem(front)) && begins_as(rest, Class::NameFirst))
+    let name = if begins(rest, ".") {
+        without_first(rest)
+    } else {
+        rest
+    };
+    (begins_test(stem(front)) && begins_as(name, Class::NameFirst))
         || (begins_test(before_name(front))
             && begins_as(last_name(front), Class::NameFirst)
             && !begins(rest, "("))
@@ -407,7 +417,7 @@ fn is_measuring(name: &[char]) -> bool {
 }
 
 /// Whether it is what a file of documents may be called.
-fn is_file_name(text: &[char]) -> bool {
+pub(crate) fn is_file_name(text: &[char]) -> bool {
     let is_jq = begins(text, ".") && !begins(text, "./") && !begins(text, "../");
     !is_jq
         && (ends(text, ".json")
@@ -416,12 +426,16 @@ fn is_file_name(text: &[char]) -> bool {
             || ends(text, ".jsonl.gz"))
 }
 
-/// Whether a number is next that begins with a dot.
+/// Whether a number is next that begins with a dot, perhaps behind a minus.
 fn is_dot_number(front: &[char], rest: &[char]) -> bool {
-    let before = stem(front);
+    let before = if ends(front, "-") {
+        stem(without_last(front))
+    } else {
+        stem(front)
+    };
     begins(rest, ".")
         && begins_as(without_first(rest), Class::Digit)
-        && (begins_value(before) || begins_selector(front))
+        && (begins_value(before) || begins_test(before) || ends_in(before, "[,:"))
 }
 
 /// Whether it ends in a blank, in a filter: a word behind that may be meant as an operator.
@@ -473,6 +487,69 @@ fn is_own_name(name: &[char]) -> bool {
         || is(name, "parentProperty")
         || is(name, "path")
         || is(name, "root")
+}
+
+/// Whether a default is next outside of brackets, behind `||` or `??`, or behind jq's `//`, which has a blank
+/// before it or a value after it.
+fn is_alternative(front: &[char], rest: &[char]) -> bool {
+    let after = split_prefix(without_first(without_first(rest)), Class::Blank).1;
+    let is_default = begins(rest, "||")
+        || begins(rest, "??")
+        || (begins(rest, "//") && (ends_as(front, Class::Blank) || is_jq_value(after)));
+    is_default && !front.is_empty() && !is_inside(front) && !ends(front, "\\")
+}
+
+/// Whether jq's query with a default is all of the text.
+fn is_jq_alternative(front: &[char], rest: &[char]) -> bool {
+    let (path, behind) = cut_at(rest, "/'\"");
+    front.is_empty() && begins(rest, ".") && is_alternative(path, behind)
+}
+
+/// Whether a value of jq is next, and not a name.
+fn is_jq_value(text: &[char]) -> bool {
+    let name = name_at(text);
+    begins_in(text, "'\"-.$[{")
+        || begins_as(text, Class::Digit)
+        || is(name, "true")
+        || is(name, "false")
+        || is(name, "null")
+}
+
+/// Whether a name that begins with a slash is next, after a dot, as those of paths in OpenAPI do.
+fn is_path_name(front: &[char], rest: &[char]) -> bool {
+    ends(front, ".") && !begins(rest, "//")
+}
+
+/// Whether a function for how a text begins or ends, with its capital letter next, was begun where a test begins.
+fn is_affix_call(front: &[char], rest: &[char]) -> bool {
+    let name = last_name(front);
+    begins(rest, "With(")
+        && begins_test(before_name(front))
+        && (is(name, "starts") || is(name, "ends"))
+}
+
+/// Whether a sign is next that has blanks on both sides.
+fn is_apart(front: &[char], rest: &[char]) -> bool {
+    ends_as(front, Class::Blank) && begins_as(without_first(rest), Class::Blank)
+}
+
+/// Whether the text ends with digits that are a number, or the end of one.
+fn ends_in_number(text: &[char]) -> bool {
+    begins_as(last_name(text), Class::Digit) && !ends(without_name(text), ".")
+}
+
+/// Whether a comma before three digits, or `_` before some, is next within a number.
+fn is_comma_number(front: &[char], rest: &[char]) -> bool {
+    let (digits, _) = split_prefix(without_first(rest), Class::Digit);
+    let is_next = (begins(rest, ",") && digits.len() == 3)
+        || (begins(rest, "_") && !digits.is_empty());
+    is_next && is_inside(front) && ends_in_number(front)
+}
+
+/// Whether a fraction is next of a number in a comparison that has commas between its digits.
+fn is_comma_fraction(front: &[char], rest: &[char]) -> bool {
+    let (before, number) = cut_digits(front);
+    begins(rest, ".") && begins_value(stem(before)) && has(number, ",")
 }
 
 /// Whether a comma stands before three digits of which the first is 0, and a digit before it.

@@ -19,6 +19,46 @@ use std::alloc::{AllocError, Global};
 /// How many slips are mended at most.
 const ROUNDS: u32 = 8;
 
+/// How much of a number with a comma in a comparison the characters before a place are.
+#[derive(Clone, Copy)]
+enum Grouped {
+    /// Nothing of it.
+    Nothing,
+    /// The sign of the comparison.
+    Sign,
+    /// Digits before the comma.
+    Whole,
+    /// The comma, and as many digits.
+    Group(u32),
+}
+
+impl Grouped {
+    /// How much of it they are with one more character.
+    fn with(self, c: char) -> Grouped {
+        match (self, c) {
+            (_, '=' | '<' | '>') | (Grouped::Sign, ' ' | '-') => Grouped::Sign,
+            (Grouped::Sign | Grouped::Whole, '0'..='9') => Grouped::Whole,
+            (Grouped::Whole, ',') => Grouped::Group(0),
+            (Grouped::Group(count), '0'..='9') => Grouped::Group(count.saturating_add(1)),
+            _ => Grouped::Nothing,
+        }
+    }
+}
+
+/// Whether a number in a comparison may have been written with a comma before three digits, which are read as
+/// another selector.
+fn has_thousands(text: &[char]) -> bool {
+    let mut before = Grouped::Nothing;
+    for c in text {
+        let after = before.with(*c);
+        if matches!(before, Grouped::Group(3)) && !matches!(after, Grouped::Group(_)) {
+            return true;
+        }
+        before = after;
+    }
+    false
+}
+
 /// What reading a mended text comes to.
 #[derive(Drop)]
 enum Attempt {
@@ -85,7 +125,7 @@ fn read(alloc: Global, text: String, profile: Profile) -> Result<Attempt, AllocE
 }
 
 /// The text of a query as it is, or where a character of it would not be shown, its canonical text, with such
-/// characters in quotes as escapes, if that is accepted.
+/// characters in quotes as escapes, if that is accepted. None where a comma in a number may make it a list.
 fn plain(
     alloc: Global,
     text: String,
@@ -95,7 +135,11 @@ fn plain(
     requires { IsQuery profile (chars (string_bytes text)) }
     ensures { IfOk result (IsSound profile) }
 {
-    if !has_hidden(&characters(alloc, text.as_str())?) {
+    let written = characters(alloc, text.as_str())?;
+    if has_thousands(&written) {
+        return Ok(Attempt::Nothing);
+    }
+    if !has_hidden(&written) {
         return Ok(Attempt::Query(text));
     }
     let canonical = canon(alloc, query)?;

@@ -17,6 +17,9 @@ const REFUSED: &[Refused] = &[
     (" $.a = 1", "Syntax at 6", 6, Reason::Equals, " $.a == 1"),
     ("'a'", "Syntax at 3", 3, Reason::LoneLiteral, ""),
     ("true", "Syntax at 4", 4, Reason::LoneLiteral, ""),
+    ("records.jsonl", "Syntax at 7", 7, Reason::FileFirst, ""),
+    ("./records.json", "Syntax at 0", 0, Reason::FileFirst, ""),
+    ("@property", "Syntax at 1", 1, Reason::OwnName, ""),
     ("@.a == 1.5", "NotWhole at 7", 7, Reason::NotWhole, ""),
     (
         "@[9007199254740992]",
@@ -46,6 +49,20 @@ const REFUSED: &[Refused] = &[
 /// Slips of those who come from other languages, and how they are mended. What is suggested is an expression.
 const MENDED: &[Refused] = &[
     ("@.a = 1", "Syntax at 5", 5, Reason::Equals, "@.a == 1"),
+    (
+        "@.a==1,000",
+        "Syntax at 6",
+        6,
+        Reason::Thousands,
+        "@.a==1000",
+    ),
+    (
+        ".level == 1",
+        "Syntax at 0",
+        0,
+        Reason::MissingAt,
+        "@.level == 1",
+    ),
     (
         "@.a and @.b=1",
         "Syntax at 4",

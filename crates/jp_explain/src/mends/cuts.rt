@@ -19,7 +19,7 @@ fn cut_before(text: &[char], place: Option<usize>) -> (&[char], &[char])
 }
 
 /// The text cut before the first of these signs; if there is none, all of it is before.
-pub(super) fn cut_at<'t>(text: &'t [char], signs: &str) -> (&'t [char], &'t [char])
+pub(crate) fn cut_at<'t>(text: &'t [char], signs: &str) -> (&'t [char], &'t [char])
     ensures parts { text.now ≡ result.0.now ++ result.1.now }
     ensures before { list_any (is_among signs.now) result.0.now ≡ false }
     ensures sign { begins_in result.1.now signs.now ≡ true ⊎ (result.1.now ≡ []) }
@@ -35,13 +35,22 @@ fn first_among(text: &[char], signs: &str) -> Option<usize>
 }
 
 /// Whether one of these signs stands in the text.
-pub(super) fn has(text: &[char], signs: &str) -> bool {
+pub(crate) fn has(text: &[char], signs: &str) -> bool {
     text.iter().any(|c| is_among(signs, *c))
 }
 
 /// The text cut after the last of these signs; if there is none, all of it is after.
 pub(super) fn cut_after<'t>(text: &'t [char], signs: &str) -> (&'t [char], &'t [char]) {
     let count = text.iter().rev().position(|c| is_among(signs, *c));
+    text.split_at(text.len().saturating_sub(count.unwrap_or(text.len())))
+}
+
+/// The text cut before the digits, and commas between them, that it ends with.
+pub(crate) fn cut_digits(text: &[char]) -> (&[char], &[char]) {
+    let count = text
+        .iter()
+        .rev()
+        .position(|c| *c != ',' && !Class::Digit.holds(*c));
     text.split_at(text.len().saturating_sub(count.unwrap_or(text.len())))
 }
 
@@ -77,12 +86,13 @@ pub(super) fn cut_call(text: &[char]) -> (&[char], &[char]) {
     text.split_at(passed.min(text.len()))
 }
 
-/// The text cut after the literal that it begins with, a text between quotation marks without escapes, a
-/// number or a word; nothing is before the cut where there is none.
+/// The text cut after the literal that it begins with, a text between quotation marks, or a pattern between
+/// slashes, without escapes, a number or a word; nothing is before the cut where there is none.
 pub(super) fn cut_literal(text: &[char]) -> (&[char], &[char]) {
     let size = match text {
         ['"', inner @ ..] => quoted_size(inner, "\""),
         ['\'', inner @ ..] => quoted_size(inner, "'"),
+        ['/', inner @ ..] => quoted_size(inner, "/"),
         ['-', number @ ..] => prefix_len(number, Class::Name).saturating_add(1),
         _ => prefix_len(text, Class::Name),
     };

@@ -55,10 +55,10 @@ pub(super) fn mended(alloc: Global, reason: Reason, cut: Cut<'_>) -> Mended {
     }
 }
 
-/// The text of a literal between quotation marks, if no sign of it is one of those.
+/// The text of a literal between quotation marks, or of a pattern between slashes, if no sign of it is one of those.
 fn plain_text<'t>(literal: &'t [char], signs: &str) -> Option<&'t [char]> {
     match literal {
-        ['"' | '\'', body @ .., _] if !has(body, signs) => Some(body),
+        ['"' | '\'' | '/', body @ .., _] if !has(body, signs) => Some(body),
         _ => None,
     }
 }
@@ -101,7 +101,7 @@ fn any_of(alloc: Global, it: Operation<'_>) -> Mended {
 }
 
 /// Writes comparisons of the side with each literal of a list, and answers the text behind the list; None
-/// where it is no list of literals.
+/// where it is no list of literals, or may be one of numbers with commas between their digits.
 fn write_items<'t>(
     out: &mut Writer,
     side: &[char],
@@ -114,7 +114,7 @@ fn write_items<'t>(
     let mut rest = without_first(list);
     for _ in 0..list.len() {
         let (item, after) = cut_literal(past_blanks(rest));
-        if item.is_empty() {
+        if item.is_empty() || matches!(item, ['0', '0'..='9', ..]) {
             return Ok(None);
         }
         write_characters(out, side)?;

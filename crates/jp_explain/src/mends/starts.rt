@@ -99,9 +99,9 @@ fn slash(alloc: Global, Cut { front, rest }: Cut<'_>) -> Mended {
     }
 }
 
-/// A name that begins with a slash, in quotes and brackets.
+/// A name that begins with a slash, in quotes and brackets; in a filter a sign of it ends the name.
 fn path_name<'t>(alloc: Global, front: &'t [char], rest: &'t [char]) -> Mended {
-    let (name, after) = cut_at(rest, ".[ ");
+    let (name, after) = cut_at(rest, ".[ ])=<>!&|,");
     if has(name, "'\"\\") {
         return Ok(None);
     }

@@ -9,8 +9,8 @@ use super::cuts::{cut_at, cut_call, cut_name, cut_side, past_blanks, past_name, 
 use super::{Cut, Mended, joined, quoted, spliced};
 use crate::class::{Class, split_prefix, split_suffix};
 use crate::marks::{
-    before_name, begins, begins_in, ends, is, last_name, stem, without_first, without_last,
-    without_name,
+    before_name, begins, begins_in, ends, ends_as, is, last_name, stem, without_first,
+    without_last, without_name,
 };
 use crate::reason::Reason;
 use std::alloc::Global;
@@ -29,6 +29,9 @@ pub(super) fn mended(alloc: Global, reason: Reason, cut: Cut<'_>) -> Mended {
         Reason::Undefined => presence(alloc, before_name(front), rest),
         Reason::LoneLiteral => another(alloc, cut),
         Reason::TextQuotes => text(alloc, cut),
+        Reason::MissingAt if begins(rest, ".") && !ends_as(front, Class::Name) => {
+            spliced(alloc, front, "@", rest)
+        }
         Reason::MissingAt => member(alloc, cut),
         Reason::MissingQuestionMark => spliced(alloc, front, "?", rest),
         Reason::Call => call(alloc, cut),

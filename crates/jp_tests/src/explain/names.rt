@@ -81,4 +81,22 @@ pub const ROWS: &[Row] = &[
     ("$[`a`]", "  ^", Reason::Quotes, "$[\"a\"]"),
     ("$.日本[日]", "       ^", Reason::BracketName, "$.日本[\"日\"]"),
     ("$[a\u{301}]", "  ^", Reason::BracketName, "$[\"a\u{301}\"]"),
+    (
+        "$.responses.200.description",
+        "            ^",
+        Reason::DotDigit,
+        "$.responses[\"200\"].description",
+    ),
+    ("$.a//\"x\"", "   ^", Reason::Alternative, ""),
+    ("$.a//.b", "   ^", Reason::Alternative, ""),
+    ("$.a//b", "   ^", Reason::Slash, "$.a..b"),
+    ("$.a || \"x\"", "    ^", Reason::Alternative, ""),
+    ("$.a ?? 1", "    ^", Reason::Alternative, ""),
+    ("$.a ? .b : .c", "    ^", Reason::Ternary, ""),
+    (
+        "$[?@.paths./pets == 1]",
+        "           ^",
+        Reason::Slash,
+        "$[?@.paths[\"/pets\"] == 1]",
+    ),
 ];

@@ -134,4 +134,31 @@ pub const ROWS: &[Row] = &[
         "$[?length(@.a) > 1]",
     ),
     ("$[?@.a | test(\"x\")]", "        ^", Reason::Pipe, ""),
+    ("$[?(@property == 'x')]", "     ^", Reason::OwnName, ""),
+    (
+        "$[?@.a in ['x','y']]",
+        "       ^",
+        Reason::Among,
+        "$[?(@.a == 'x' || @.a == 'y')]",
+    ),
+    ("$[?@.a in [1,000]]", "       ^", Reason::Among, ""),
+    (
+        "$[?@.name =~ /ab.*/]",
+        "           ^",
+        Reason::Pattern,
+        "$[?search(@.name, \"ab.*\")]",
+    ),
+    (
+        "$[?@.a matches /x.*/]",
+        "       ^",
+        Reason::Matches,
+        "$[?match(@.a, \"x.*\")]",
+    ),
+    ("$[?startsWith(@.a, 'x')]", "         ^", Reason::Affix, ""),
+    (
+        "$[?match(@.a, \"\\d\\b\")]",
+        "                ^",
+        Reason::Escape,
+        "",
+    ),
 ];

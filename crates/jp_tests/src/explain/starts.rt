@@ -11,7 +11,7 @@ pub const ROWS: &[Row] = &[
     ("records.jsonl", "^", Reason::FileName, ""),
     ("./data/package.json", "^", Reason::FileName, ""),
     (".json", "^", Reason::ShellDot, "$.json"),
-    (".a // \"x\"", "^", Reason::ShellDot, ""),
+    (".a // \"x\"", "^", Reason::Alternative, ""),
     ("./a/b", "^", Reason::ShellDot, "$.a.b"),
     ("0", "^", Reason::ShellNumber, "$[0]"),
     (".b", "^", Reason::ShellDot, "$.b"),
@@ -50,4 +50,6 @@ pub const ROWS: &[Row] = &[
         Reason::MissingDollar,
         "$.items[?@.price>10].name",
     ),
+    (".a[0] // .b", "^", Reason::Alternative, ""),
+    ("./a//b", "^", Reason::ShellDot, "$.a..b"),
 ];

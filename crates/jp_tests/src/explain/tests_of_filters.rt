@@ -124,4 +124,10 @@ pub const ROWS: &[Row] = &[
         Reason::And,
         "$.store.book[?(@.price < 10 && @.category == \"fiction\")].title",
     ),
+    (
+        "$[?.price < 10]",
+        "   ^",
+        Reason::MissingAt,
+        "$[?@.price < 10]",
+    ),
 ];

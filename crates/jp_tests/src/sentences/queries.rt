@@ -20,6 +20,11 @@ pub const BY_SURROUNDINGS: &[(Reason, &str, &str)] = &[
         "A query begins with `$`, and stands before the names of files.",
     ),
     (
+        Reason::FileFirst,
+        "An expression is a test, such as `@.name == 1`: this looks like the name of a file.",
+        "An expression, such as `@.name == 1`, stands before the names of files.",
+    ),
+    (
         Reason::ShellDot,
         "A query begins with `$`: it stands before the first dot.",
         "A query begins with `$`; if you typed one, the shell took it, so put the query in single quotes.",
@@ -66,7 +71,7 @@ pub const ROWS: &[(Reason, &str)] = &[
     ),
     (
         Reason::Alternative,
-        "There is no `//` with a default: a path to nothing selects nothing.",
+        "There is no default behind `//`, `||` or `??`: a path to nothing selects nothing.",
     ),
     (
         Reason::Slash,
@@ -110,7 +115,10 @@ pub const ROWS: &[(Reason, &str)] = &[
     ),
     (Reason::Equals, "Values are compared with `==` and `!=`."),
     (Reason::Unequal, "`<>` is written `!=`."),
-    (Reason::DotNumber, "A number does not begin with a dot."),
+    (
+        Reason::DotNumber,
+        "A number does not begin with a dot: .5 is written 0.5.",
+    ),
     (
         Reason::LastItem,
         "A negative index counts from the end: `[-1]` is the last item.",
@@ -179,7 +187,10 @@ pub const ROWS: &[(Reason, &str)] = &[
         Reason::Optional,
         "No `?` is needed here: a path to nothing selects nothing.",
     ),
-    (Reason::Pipe, "There are no pipes: a query is one path."),
+    (
+        Reason::Pipe,
+        "There are no pipes: a query is one path, and jq's `.a | .b` is written `$.a.b`.",
+    ),
     (
         Reason::Union,
         "A query is one path: several names or indexes stand in one pair of brackets, as in `[\"a\", \"b\"]`.",
@@ -200,7 +211,7 @@ pub const ROWS: &[(Reason, &str)] = &[
     (Reason::StrayBracket, "This `]` closes nothing."),
     (
         Reason::Thousands,
-        "No comma stands between the digits of a number.",
+        "Nothing stands between the digits of a number: 1,000 is written 1000.",
     ),
     (
         Reason::LeadingZero,
@@ -208,7 +219,10 @@ pub const ROWS: &[(Reason, &str)] = &[
     ),
     (Reason::Plus, "A number has no `+` before it."),
     (Reason::MinusZero, "The index 0 has no `-` before it."),
-    (Reason::LoneMinus, "A number comes right after a `-`."),
+    (
+        Reason::LoneMinus,
+        "A number comes right after a `-`, as in -1.",
+    ),
     (
         Reason::IndexForm,
         "An index is a whole number, and a slice is written `[0:2]`, which selects the items 0 and 1.",
