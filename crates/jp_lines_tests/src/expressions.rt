@@ -17,7 +17,13 @@ const REFUSED: &[Refused] = &[
     (" $.a = 1", "Syntax at 6", 6, Reason::Equals, " $.a == 1"),
     ("'a'", "Syntax at 3", 3, Reason::LoneLiteral, ""),
     ("true", "Syntax at 4", 4, Reason::LoneLiteral, ""),
-    ("@.a == 1.5", "NotWhole at 7", 7, Reason::NotWhole, ""),
+    (
+        "@.a == 1e1000001",
+        "NumberRange at 7",
+        7,
+        Reason::DecimalRange,
+        "",
+    ),
     (
         "@[9007199254740992]",
         "IndexRange at 2",
@@ -163,7 +169,7 @@ fn the_line_of_an_expression_is_shown_as_that_of_a_query(rt: HostRuntime) -> Res
     Ok(())
 }
 
-/// Expressions with a function of `Extended` in `Standard`.
+/// Expressions with a function that `--extended` alone lets them call, without that flag.
 const DISTINCT: &[Refused] = &[
     (
         "distinct(@.*)",
