@@ -33,7 +33,7 @@ _jp_lines_flags() {
     [[ ! ${COMP_WORDS[1]} =~ ^(eval|both)$ ]] || own=(--first --raw)
     [ "${COMP_WORDS[1]}" != keep ] || own=()
     [ "${COMP_WORDS[1]}" != columns ] || own=(--csv --raw --names)
-    for flag in --extended --decimals --number "${own[@]}" --keep-going --line-buffered --explain --exit-status \
+    for flag in --extended --whole --number "${own[@]}" --keep-going --line-buffered --explain --exit-status \
         --summary --reports --limit --max-nodes --max-bytes; do
         [[ $before == *" $flag "* ]] || echo "$flag"
     done

@@ -58,4 +58,4 @@ pub use output::write_all;
 pub use selecting::{Rooms, push_selected};
 pub use selection_fault::{SelectionFault, check_output};
 pub use showing::{is_shown, write_shown};
-pub use words::{is_set, profile_asked, query_command, with_flag};
+pub use words::{is_set, query_command, with_flag};

@@ -253,7 +253,7 @@ fn flags_asked(found: &ArgMatches) -> NodeFlags
 }
 
 /// The profile that the matches of a subcommand ask for.
-pub fn profile_asked(found: &ArgMatches) -> Profile
+fn profile_asked(found: &ArgMatches) -> Profile
     ensures { result ≡ profile_asked (rows_of (found_of found.now)) }
 {
     match (is_set(found, "decimals"), is_set(found, "extended")) {

@@ -247,7 +247,7 @@ impl Reason {
                 "A name in brackets needs quotes (inside the shell's single quotes, double ones)."
             },
             Reason::NotWhole => {
-                "This number has a fraction or an exponent, which the option --decimals reads exactly."
+                "This number has a fraction or an exponent, which jp reads exactly with --decimals, and jp-lines without --whole."
             },
             Reason::Distinct => {
                 "`distinct` is a function of the extended profile alone: give the option --extended."

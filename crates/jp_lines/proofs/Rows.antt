@@ -17,7 +17,7 @@ use Rattle.jp_lines.specs.declared.options.Wanted.TheVariants.{Nodes, Count}
 abbrev plain : Options
 plain =
     record {
-      profile = Standard;
+      profile = Decimal;
       numbered = false;
       keep_going = false;
       line_buffered = false;
@@ -48,7 +48,7 @@ number_and_buffer = refl
 going_and_extended :
     asked (codes "jp-lines" ∷ codes "count" ∷ codes "--keep-going" ∷ codes "--extended"
     ∷ codes "$" ∷ [])
-    ≡ over [] (record plain { profile = Extended; keep_going = true }) (SelectBy Count All (codes "$"))
+    ≡ over [] (record plain { profile = ExtendedDecimal; keep_going = true }) (SelectBy Count All (codes "$"))
 unfolding clap_on_literals jp_lines with_columns with_keep with_selections keep_app values_app lines_app columns_app queries_app query_app
 going_and_extended = refl
 
@@ -190,25 +190,30 @@ reports_too_many :
 unfolding clap_on_literals jp_lines with_columns with_keep with_selections keep_app values_app lines_app columns_app queries_app query_app
 reports_too_many = refl
 
-decimals : asked (codes "jp-lines" ∷ codes "eval" ∷ codes "--decimals" ∷ codes "$" ∷ [])
-    ≡ over [] (record plain { profile = Decimal }) (SelectBy (Nodes form.values) All (codes "$"))
+whole : asked (codes "jp-lines" ∷ codes "eval" ∷ codes "--whole" ∷ codes "$" ∷ [])
+    ≡ over [] (record plain { profile = Standard }) (SelectBy (Nodes form.values) All (codes "$"))
 unfolding clap_on_literals jp_lines with_columns with_keep with_selections keep_app values_app lines_app columns_app queries_app query_app
-decimals = refl
+whole = refl
 
-keeping_by_decimals :
-    asked (codes "jp-lines" ∷ codes "keep" ∷ codes "@.a" ∷ codes "x" ∷ codes "--decimals" ∷ codes "--extended" ∷ [])
-    ≡ over (codes "x" ∷ []) (record plain { profile = ExtendedDecimal }) (KeepBy (codes "@.a"))
+keeping_by_whole :
+    asked (codes "jp-lines" ∷ codes "keep" ∷ codes "@.a" ∷ codes "x" ∷ codes "--whole" ∷ codes "--extended" ∷ [])
+    ≡ over (codes "x" ∷ []) (record plain { profile = Extended }) (KeepBy (codes "@.a"))
 unfolding clap_on_literals jp_lines with_columns with_keep with_selections keep_app values_app lines_app columns_app queries_app query_app
-keeping_by_decimals = refl
+keeping_by_whole = refl
 
-columns_of_decimals :
-    asked (codes "jp-lines" ∷ codes "columns" ∷ codes "--decimals" ∷ codes "$.a" ∷ codes "$.b" ∷ [])
-    ≡ over [] (record plain { profile = Decimal })
+columns_of_whole :
+    asked (codes "jp-lines" ∷ codes "columns" ∷ codes "--whole" ∷ codes "$.a" ∷ codes "$.b" ∷ [])
+    ≡ over [] (record plain { profile = Standard })
     (ColumnsBy (record { format = Tabs; raw = false }) false (codes "$.a" ∷ codes "$.b" ∷ []))
 unfolding clap_on_literals jp_lines with_columns with_keep with_selections keep_app values_app lines_app columns_app queries_app query_app
-columns_of_decimals = refl
+columns_of_whole = refl
 
-decimals_twice :
-    asked (codes "jp-lines" ∷ codes "count" ∷ codes "--decimals" ∷ codes "$" ∷ codes "--decimals" ∷ []) ≡ None
+whole_twice :
+    asked (codes "jp-lines" ∷ codes "count" ∷ codes "--whole" ∷ codes "$" ∷ codes "--whole" ∷ []) ≡ None
 unfolding clap_on_literals jp_lines with_columns with_keep with_selections keep_app values_app lines_app columns_app queries_app query_app
-decimals_twice = refl
+whole_twice = refl
+
+decimals_of_another_program :
+    asked (codes "jp-lines" ∷ codes "eval" ∷ codes "--decimals" ∷ codes "$" ∷ []) ≡ None
+unfolding clap_on_literals jp_lines with_columns with_keep with_selections keep_app values_app lines_app columns_app queries_app query_app
+decimals_of_another_program = refl

@@ -16,7 +16,10 @@ use Rattle.clap.specs.ValueTests.{is_unsigned_in}
 use Rattle.clap.specs.Walk.{is_empty}
 use Rattle.jp_cells.specs.declared.style.Format.TheVariants.{Csv, Tabs}
 use Rattle.jp_cells.specs.declared.style.Style.{Style}
-use Rattle.jp_command.specs.CommandLine.{is_set, profile_asked, query_app, with_flag}
+use Rattle.jp_check.specs.declared.profile.Profile.{Profile}
+use Rattle.jp_check.specs.declared.profile.Profile.TheVariants.{Standard, Extended, Decimal}
+use Rattle.jp_check.specs.declared.profile.Profile.TheVariants.{ExtendedDecimal}
+use Rattle.jp_command.specs.CommandLine.{is_set, query_app, with_flag}
 use Rattle.jp_command.specs.Lines.{both, paths, raw_both, raw_values, values}
 use Rattle.jp_limit.specs.declared.output_limit.OutputLimit.{OutputLimit}
 use Rattle.jp_lines.specs.Request.{ColumnsBy, Job, KeepBy, Request, SelectBy}
@@ -57,7 +60,7 @@ with_tellings app = with_flag (with_flag (with_flag app (codes "explain")) (code
 -- the command with the flags and the options of a run over lines
 abbrev pub with_line_flags : App → App
 with_line_flags app = with_line_numbers (with_tellings (with_flag (with_flag (with_flag (with_flag app
-    (codes "decimals")) (codes "number")) (codes "keep-going")) (codes "line-buffered")))
+    (codes "whole")) (codes "number")) (codes "keep-going")) (codes "line-buffered")))
 
 -- the command whose further positionals are the names of inputs, which need not be given
 abbrev pub with_files : App → App
@@ -142,10 +145,17 @@ output_limit_asked rows = record {
   bytes = number_asked (codes "max-bytes") rows;
 }
 
+-- the profile: with `--whole` one over whole numbers of 64 bits, else one over exact decimals, and with
+-- `--extended` the one of these with its functions
+abbrev pub profile_of_lines : List Row → Profile
+profile_of_lines rows = if is_set (codes "whole") rows
+    then (if is_set (codes "extended") rows then Extended else Standard)
+    else (if is_set (codes "extended") rows then ExtendedDecimal else Decimal)
+
 -- what the flags and the options ask for
 abbrev pub options_asked : List Row → Options
 options_asked rows = record {
-  profile = profile_asked rows;
+  profile = profile_of_lines rows;
   numbered = is_set (codes "number") rows;
   keep_going = is_set (codes "keep-going") rows;
   line_buffered = is_set (codes "line-buffered") rows;

@@ -63,8 +63,8 @@ fn with_line_flags<'w>(alloc: Global, command: Command<'w>) -> Result<Command<'w
     let command = with_flag(
         alloc,
         command,
-        "decimals",
-        "Takes numbers as exact decimals, not whole ones alone",
+        "whole",
+        "Takes whole numbers of 64 bits alone",
     )?;
     let command = with_flag(
         alloc,

@@ -68,7 +68,7 @@ fn hint(reason: JsonReason) -> &'static str
             " A document ends with its line: jp eval '$' writes it on one."
         }
         JsonReason::HasFraction | JsonReason::NegativeZero | JsonReason::OutOfRange => {
-            " With --decimals jp-lines takes numbers of up to 38 digits exactly."
+            " Without --whole jp-lines takes numbers of up to 38 digits exactly."
         }
         JsonReason::RecordSeparator => " tr -d '\\036' takes it away.",
         JsonReason::Gzip => " gzip -dc writes what it holds.",

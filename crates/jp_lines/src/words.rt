@@ -7,8 +7,8 @@ ghost use Rattle.clap.specs.Words.{subcommand_of, subcommand_rows_of};
 ghost use Rattle.clap.specs.declared.error.kind.ErrorKind.TheVariants.{OutOfMemory};
 ghost use Rattle.jp_lines.specs.CommandLine.{asked, asked_by, begins_query, columns_by, extent_asked};
 ghost use Rattle.jp_lines.specs.CommandLine.{inputs_by, jp_lines, names_behind, number_asked};
-ghost use Rattle.jp_lines.specs.CommandLine.{options_asked, output_limit_asked, query_count};
-ghost use Rattle.jp_lines.specs.CommandLine.{request_by, selection_by, style_asked, wanted_called};
+ghost use Rattle.jp_lines.specs.CommandLine.{options_asked, output_limit_asked, profile_of_lines};
+ghost use Rattle.jp_lines.specs.CommandLine.{query_count, request_by, selection_by, style_asked, wanted_called};
 ghost use Rattle.jp_lines.specs.CommandLine.{words_of};
 ghost use Rattle.jp_command.specs.CommandLine.{is_set};
 ghost use Rattle.jp_lines.specs.Request.{ColumnsBy, KeepBy};
@@ -20,7 +20,8 @@ use crate::options::{Extent, Options, Wanted};
 use crate::task::{Job, Request};
 use clap::{ArgMatches, Error};
 use jp_cells::{Format, Style};
-use jp_command::{Form, is_set, profile_asked};
+use jp_check::Profile;
+use jp_command::{Form, is_set};
 use jp_limit::OutputLimit;
 use std::alloc::{AllocError, Global};
 
@@ -68,12 +69,24 @@ fn output_limit_asked(found: &ArgMatches) -> OutputLimit
     }
 }
 
+/// The profile that the matches of a subcommand ask for.
+fn profile_of_lines(found: &ArgMatches) -> Profile
+    ensures { result ≡ profile_of_lines (rows_of (found_of found.now)) }
+{
+    match (is_set(found, "whole"), is_set(found, "extended")) {
+        (false, false) => Profile::Decimal,
+        (false, true) => Profile::ExtendedDecimal,
+        (true, false) => Profile::Standard,
+        (true, true) => Profile::Extended,
+    }
+}
+
 /// The options that the matches of a subcommand ask for.
 fn options_asked(found: &ArgMatches) -> Options
     ensures { result ≡ options_asked (rows_of (found_of found.now)) }
 {
     Options {
-        profile: profile_asked(found),
+        profile: profile_of_lines(found),
         numbered: is_set(found, "number"),
         keep_going: is_set(found, "keep-going"),
         line_buffered: is_set(found, "line-buffered"),

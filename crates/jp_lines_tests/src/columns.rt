@@ -117,7 +117,7 @@ fn members_that_are_not_asked_for(rt: HostRuntime) -> Result<(), AllocError> {
     let told = "line 6: document refused: NotWhole at $['x']\n";
     for &(queries, written) in MEMBERS_THAT_ARE_NOT_ASKED_FOR {
         let mut line = Vec::new(rt.alloc());
-        line.extend_from_slice(&["jp-lines", "columns", "--keep-going"])?;
+        line.extend_from_slice(&["jp-lines", "columns", "--whole", "--keep-going"])?;
         line.extend_from_slice(queries)?;
         let ended = (3, written, told, 1);
         assert_ends(&rt, rt.alloc(), line.as_slice(), MEMBERS, false, ended)?;

@@ -20,20 +20,20 @@ fn told_of_first(alloc: Global) -> Result<String, AllocError> {
     format!(in alloc; "line 3: document refused: NotJson\nline 3, column 10: {sentence}\n")
 }
 
-/// What is told of all.
+/// What is told of all where numbers are whole.
 fn told_of_all(alloc: Global) -> Result<String, AllocError> {
     let first = told_of_first(alloc)?;
     let second = JsonReason::HasFraction.sentence();
     let third = JsonReason::EndInObject.sentence();
     format!(in alloc;
         "{first}line 4: document refused: NotWhole at $[0]\nline 4, column 2, at $[0]: {second} \
-        With --decimals jp-lines takes numbers of up to 38 digits exactly.\n\
+        Without --whole jp-lines takes numbers of up to 38 digits exactly.\n\
         line 5: document refused: NotJson\nline 5, column 7: {third} \
         A document ends with its line: jp eval '$' writes it on one.\n"
     )
 }
 
-/// What is told of all without the flag.
+/// What is told of all without `--explain`.
 const PLAIN: &str = "line 3: document refused: NotJson\n\
     line 4: document refused: NotWhole at $[0]\nline 5: document refused: NotJson\n";
 
@@ -53,7 +53,14 @@ fn explains_lines_where_that_is_asked_for(rt: HostRuntime) -> Result<(), AllocEr
             first.as_str(),
         ),
         (
-            &["jp-lines", "eval", "--explain", "--keep-going", "$.a"],
+            &[
+                "jp-lines",
+                "eval",
+                "--explain",
+                "--whole",
+                "--keep-going",
+                "$.a",
+            ],
             "1\n2\n",
             all.as_str(),
         ),
@@ -65,6 +72,7 @@ fn explains_lines_where_that_is_asked_for(rt: HostRuntime) -> Result<(), AllocEr
                 "--number",
                 "--explain",
                 "$..a",
+                "--whole",
             ],
             "1\t$['a']\n6\t$['a']\n",
             all.as_str(),
@@ -77,13 +85,14 @@ fn explains_lines_where_that_is_asked_for(rt: HostRuntime) -> Result<(), AllocEr
                 "--keep-going",
                 "--limit",
                 "9",
+                "--whole",
                 "$..a",
             ],
             "1\n1\n",
             all.as_str(),
         ),
         (
-            &["jp-lines", "eval", "--keep-going", "$.a"],
+            &["jp-lines", "eval", "--keep-going", "--whole", "$.a"],
             "1\n2\n",
             PLAIN,
         ),
@@ -246,7 +255,14 @@ fn assert_whole(
 
 #[test]
 fn explains_lines_until_a_write_fails(rt: HostRuntime) -> Result<(), AllocError> {
-    let going: [&str; 5] = ["jp-lines", "count", "--explain", "--keep-going", "$.a"];
+    let going: [&str; 6] = [
+        "jp-lines",
+        "count",
+        "--explain",
+        "--keep-going",
+        "--whole",
+        "$.a",
+    ];
     let stopping: [&str; 4] = ["jp-lines", "count", "--explain", "$.a"];
     let first = told_of_first(rt.alloc())?;
     let all = told_of_all(rt.alloc())?;

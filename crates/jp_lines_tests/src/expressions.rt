@@ -20,7 +20,13 @@ const REFUSED: &[Refused] = &[
     ("records.jsonl", "Syntax at 7", 7, Reason::FileFirst, ""),
     ("./records.json", "Syntax at 0", 0, Reason::FileFirst, ""),
     ("@property", "Syntax at 1", 1, Reason::OwnName, ""),
-    ("@.a == 1.5", "NotWhole at 7", 7, Reason::NotWhole, ""),
+    (
+        "@.a == 1e1000001",
+        "NumberRange at 7",
+        7,
+        Reason::DecimalRange,
+        "",
+    ),
     (
         "@[9007199254740992]",
         "IndexRange at 2",
@@ -180,7 +186,7 @@ fn the_line_of_an_expression_is_shown_as_that_of_a_query(rt: HostRuntime) -> Res
     Ok(())
 }
 
-/// Expressions with a function of `Extended` in `Standard`.
+/// Expressions with a function that `--extended` alone lets them call, without that flag.
 const DISTINCT: &[Refused] = &[
     (
         "distinct(@.*)",

@@ -116,7 +116,7 @@ fn members_that_are_not_asked_for(rt: HostRuntime) -> Result<(), AllocError> {
         ("@..a", anywhere.as_str()),
     ];
     for (test, written) in rows {
-        let line = ["jp-lines", "keep", "--keep-going", test];
+        let line = ["jp-lines", "keep", "--whole", "--keep-going", test];
         let ended = (3, written, told, 1);
         assert_ends(&rt, rt.alloc(), &line, MEMBERS, false, ended)?;
     }

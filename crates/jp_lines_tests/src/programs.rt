@@ -131,13 +131,14 @@ fn finds_the_value_at_the_location_that_a_query_names(rt: HostRuntime) -> Result
         line 7: document refused: NotWhole at $['more'][0]\n";
     let runs: [(&[&str], &str); 4] = [
         (
-            &["jp-lines", "eval", "--keep-going", "$.user.name"],
+            &["jp-lines", "eval", "--whole", "--keep-going", "$.user.name"],
             "\"Ann\"\n\"A\\n\"\n{\"a\":[]}\n9\n",
         ),
         (
             &[
                 "jp-lines",
                 "both",
+                "--whole",
                 "--number",
                 "--keep-going",
                 "$['user'].name",
@@ -146,11 +147,24 @@ fn finds_the_value_at_the_location_that_a_query_names(rt: HostRuntime) -> Result
             6\t$['user']['name']\t{\"a\":[]}\n9\t$['user']['name']\t9\n",
         ),
         (
-            &["jp-lines", "count", "--keep-going", "$.user.name"],
+            &[
+                "jp-lines",
+                "count",
+                "--keep-going",
+                "--whole",
+                "$.user.name",
+            ],
             "1\n0\n0\n1\n1\n1\n",
         ),
         (
-            &["jp-lines", "count", "--number", "--keep-going", "$.id[1]"],
+            &[
+                "jp-lines",
+                "count",
+                "--number",
+                "--keep-going",
+                "$.id[1]",
+                "--whole",
+            ],
             "1\t1\n2\t0\n3\t0\n5\t0\n6\t0\n9\t0\n",
         ),
     ];
@@ -188,7 +202,8 @@ fn ends_with_the_status_of_its_run(rt: HostRuntime) -> Result<(), AllocError> {
     assert_ends(&rt, alloc, &eval, "", false, (0, "", "", 1))?;
     let not_whole = "line 2: document refused: NotWhole at $['a'][1]\n";
     let lines = "[0,0]\n{\"a\":[1,1.5]}\n";
-    assert_ends(&rt, alloc, &eval, lines, false, (3, "0\n", not_whole, 1))?;
+    let whole = ["jp-lines", "eval", "--whole", "$[1]"];
+    assert_ends(&rt, alloc, &whole, lines, false, (3, "0\n", not_whole, 1))?;
     assert_ends(
         &rt,
         alloc,
@@ -226,7 +241,7 @@ fn tells_that_its_query_is_too_long(rt: HostRuntime) -> Result<(), AllocError> {
     )
 }
 
-/// A query that `Extended` alone accepts.
+/// A query that is accepted with `--extended` alone.
 const UNKNOWN: Refused = (
     "$[?distinct(@[*])]",
     "UnknownFunction at 3",

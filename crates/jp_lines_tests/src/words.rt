@@ -2,7 +2,7 @@
 
 use super::programs::words;
 use clap::error::ErrorKind;
-use jp_check::Profile::Standard;
+use jp_check::Profile;
 use jp_command::Form;
 use jp_limit::OutputLimit;
 use jp_lines::{Job, Options, Request, Wanted, read_words};
@@ -12,7 +12,7 @@ use std::test::Fail;
 
 /// What no flag asks for.
 const PLAIN: Options = Options {
-    profile: Standard,
+    profile: Profile::Decimal,
     numbered: false,
     keep_going: false,
     line_buffered: false,
@@ -180,6 +180,29 @@ fn flags_ask_for_raw_texts_a_summary_and_few_reports(rt: HostRuntime) -> Result<
     Ok(())
 }
 
+/// Words that ask for values in a profile.
+const PROFILES: &[(&[&str], Profile)] = &[
+    (&["jp-lines", "eval", "$"], Profile::Decimal),
+    (&["jp-lines", "eval", "--whole", "$"], Profile::Standard),
+    (
+        &["jp-lines", "eval", "$", "--extended"],
+        Profile::ExtendedDecimal,
+    ),
+    (
+        &["jp-lines", "eval", "--extended", "$", "x", "--whole"],
+        Profile::Extended,
+    ),
+];
+
+#[test]
+fn numbers_are_whole_where_that_is_asked_for(rt: HostRuntime) -> Result<(), AllocError> {
+    for &(line, profile) in PROFILES {
+        let options = Options { profile, ..PLAIN };
+        assert_options(&rt, rt.alloc(), (line, Form::VALUES, options))?;
+    }
+    Ok(())
+}
+
 /// Whether the words are refused so.
 fn assert_refused(
     rt: &impl Abort,
@@ -212,6 +235,14 @@ const WORDS_OF_ANOTHER_COMMAND_ARE_REFUSED: &[(&[&str], ErrorKind)] = &[
     (
         &["jp-lines", "eval", "--reports", "-1", "$"],
         ErrorKind::UnknownArgument,
+    ),
+    (
+        &["jp-lines", "eval", "--decimals", "$"],
+        ErrorKind::UnknownArgument,
+    ),
+    (
+        &["jp-lines", "columns", "--whole", "$", "--whole"],
+        ErrorKind::ArgumentConflict,
     ),
     (
         &["jp-lines", "eval", "--reports=18446744073709551616", "$"],

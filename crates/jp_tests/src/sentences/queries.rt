@@ -7,7 +7,7 @@ pub const BY_SURROUNDINGS: &[(Reason, &str, &str)] = &[
     (
         Reason::NotWhole,
         "Numbers in queries are whole: write 10, and neither 10.0 nor 1e1.",
-        "This number has a fraction or an exponent, which the option --decimals reads exactly.",
+        "This number has a fraction or an exponent, which jp reads exactly with --decimals, and jp-lines without --whole.",
     ),
     (
         Reason::ShellNumber,
