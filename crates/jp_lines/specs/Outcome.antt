@@ -123,8 +123,8 @@ tally_of (x ∷ xs) = plus (tally_in x) (tally_of xs)
 -- JSON text sequences (RFC 7464), what is compressed, or UTF-16.
 abbrev pub hint_of : JsonReason → List ℕ
 hint_of AfterValue = codes " Each line holds one document."
-hint_of EndInArray = codes " A document ends with its line: jp eval '$' writes it on one."
-hint_of EndInObject = codes " A document ends with its line: jp eval '$' writes it on one."
+hint_of EndInArray = codes " A document ends with its line: jp eval --decimals '$' writes it on one."
+hint_of EndInObject = codes " A document ends with its line: jp eval --decimals '$' writes it on one."
 hint_of HasFraction = codes " Without --whole jp-lines takes numbers of up to 38 digits exactly."
 hint_of NegativeZero = codes " Without --whole jp-lines takes numbers of up to 38 digits exactly."
 hint_of OutOfRange = codes " Without --whole jp-lines takes numbers of up to 38 digits exactly."

@@ -65,7 +65,7 @@ fn hint(reason: JsonReason) -> &'static str
     match reason {
         JsonReason::AfterValue => " Each line holds one document.",
         JsonReason::EndInArray | JsonReason::EndInObject => {
-            " A document ends with its line: jp eval '$' writes it on one."
+            " A document ends with its line: jp eval --decimals '$' writes it on one."
         }
         JsonReason::HasFraction | JsonReason::NegativeZero | JsonReason::OutOfRange => {
             " Without --whole jp-lines takes numbers of up to 38 digits exactly."

@@ -29,7 +29,7 @@ fn told_of_all(alloc: Global) -> Result<String, AllocError> {
         "{first}line 4: document refused: NotWhole at $[0]\nline 4, column 2, at $[0]: {second} \
         Without --whole jp-lines takes numbers of up to 38 digits exactly.\n\
         line 5: document refused: NotJson\nline 5, column 7: {third} \
-        A document ends with its line: jp eval '$' writes it on one.\n"
+        A document ends with its line: jp eval --decimals '$' writes it on one.\n"
     )
 }
 
@@ -128,13 +128,13 @@ const OTHER_FORMS: &[OtherForm] = &[
         "{",
         "column 2",
         JsonReason::EndInObject,
-        " A document ends with its line: jp eval '$' writes it on one.",
+        " A document ends with its line: jp eval --decimals '$' writes it on one.",
     ),
     (
         "{\"a\":[1,",
         "column 9",
         JsonReason::EndInArray,
-        " A document ends with its line: jp eval '$' writes it on one.",
+        " A document ends with its line: jp eval --decimals '$' writes it on one.",
     ),
     (
         "\u{1e}{\"a\":1}",

@@ -139,7 +139,7 @@ const DECIMALS_OF_ROOT: &[(&str, &str)] = &[
     (r#"{"a":1.5.5}"#, "no document"),
 ];
 
-/// The same where of a list's items the members `a` and `bc` are asked for.
+/// Documents of decimals, and what is kept of them where of a list's items the members `a` and `bc` are asked for.
 const DECIMALS_OF_ITEMS: &[(&str, &str)] = &[
     (
         r#"[{"b":0.5,"a":8.950},1.50,{"b":[-0.0,{"c":1e400}]}]"#,
@@ -150,7 +150,7 @@ const DECIMALS_OF_ITEMS: &[(&str, &str)] = &[
     (r#"[{"b":1e-1000001,"a":1}]"#, "no document"),
 ];
 
-/// The same where members of the name `a` are asked for, wherever they stand.
+/// Documents of decimals, and what is kept of them where members of the name `a` are asked for, wherever they stand.
 const DECIMALS_ANYWHERE: &[(&str, &str)] = &[
     (
         r#"{"x":0.5,"y":[{"z":1e2,"a":8.950}]}"#,
