@@ -33,7 +33,7 @@ ROWS = [
     ("the first of many nodes", "$[0:100].title", BOOKS),
     ("too many nodes", "$..price", BOOKS),
     ("a document that is no JSON at its end", "$..price", BOOKS[:-1] + ",]"),
-    ("one with a fraction at its end", "$..price", BOOKS[:-1] + ",0.5]"),
+    ("one with a number of 39 digits at its end", "$..price", BOOKS[:-1] + f",{'9' * 39}]"),
     ("127 lists in one another, and 1,000 segments", "$" + "..*" * 1_000, "[" * 127 + "]" * 127),
     ("300 filters, one behind another", "$" + "..[?@[*]]" * 300, "[" * 127 + "]" * 127),
     ("ways that are counted", "$[?count(" + "@" + "[*,*]" * 100 + ")>9]", repeated("[[[1],2],3]")),

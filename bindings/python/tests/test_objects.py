@@ -356,8 +356,8 @@ class Arguments(unittest.TestCase):
     def test_numbers_and_decimals(self):
         query, kept = jp.compile("$"), jp.Document("[]")
         calls = (jp.find, jp.find_one, jp.finditer, jp.paths, jp.values, jp.exists)
-        many = [lambda numbers, call=call, query=query: call(query, "[]", numbers=numbers)
-                for call in calls for query in ("$", query)]
+        many = [lambda numbers, call=call, asked=asked: call(asked, "[]", numbers=numbers)
+                for call in calls for asked in ("$", query)]
         many += [lambda numbers, call=call: call("$", numbers=numbers)
                  for call in (jp.compile, jp.parse, jp.Query, jp.canonical, jp.check)]
         many += [lambda numbers: jp.Document("[]", numbers=numbers),
