@@ -1,6 +1,6 @@
 #!/usr/bin/env python3
-"""Measures what keeping spares and what decimals cost, and prints the rows of README.md's tables, in microseconds: the
-least of many runs.
+"""Measures what keeping spares, and prints the rows of README.md's table, in microseconds: the least of many runs. Then
+what decimals cost: of whole numbers as such, of the same as decimals, and of fractions.
 
 It takes the library that bindings/build put into the package, and jsonpath-ng where it is installed.
 """

@@ -2,14 +2,18 @@
 """Measures what strangers can make a call take that has limits, and prints the rows of docs/EMBED.md's table: of each
 the error or the nodes, the milliseconds of processor, the least of some calls, and how many megabytes the process grew.
 
+    strangers.py [decimal|whole]    with numbers of that kind
+
 It takes the library that bindings/build put into the package.
 """
 import multiprocessing
 import resource
+import sys
 import time
 
 import jsonpath_jp as jp
 
+NUMBERS = sys.argv[1] if sys.argv[1:] else "decimal"
 LIMITS = {"limit": 1_000_000, "max_nodes": 10_000, "max_bytes": 1_000_000}
 QUERY, DOCUMENT = 4_000, 1_000_000
 TIMES = 3
@@ -33,7 +37,7 @@ ROWS = [
     ("the first of many nodes", "$[0:100].title", BOOKS),
     ("too many nodes", "$..price", BOOKS),
     ("a document that is no JSON at its end", "$..price", BOOKS[:-1] + ",]"),
-    ("one with a number of 39 digits at its end", "$..price", BOOKS[:-1] + f",{'9' * 39}]"),
+    ("one with a fraction at its end", "$..price", BOOKS[:-1] + ",0.5]"),
     ("127 lists in one another, and 1,000 segments", "$" + "..*" * 1_000, "[" * 127 + "]" * 127),
     ("300 filters, one behind another", "$" + "..[?@[*]]" * 300, "[" * 127 + "]" * 127),
     ("ways that are counted", "$[?count(" + "@" + "[*,*]" * 100 + ")>9]", repeated("[[[1],2],3]")),
@@ -56,7 +60,7 @@ def measured(row):
     for _ in range(TIMES):
         start = time.process_time()
         try:
-            came = f"{len(jp.find(query, document, **LIMITS)):,} nodes"
+            came = f"{len(jp.find(query, document, numbers=NUMBERS, **LIMITS)):,} nodes"
         except jp.Error as fault:
             came = f"`{getattr(fault, 'kind', type(fault).__name__)}`"
         taken = time.process_time() - start
