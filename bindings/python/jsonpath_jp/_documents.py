@@ -34,7 +34,7 @@ def _plain(value: Any) -> Union[dict, list, Decimal, None]:
     return list(value) if isinstance(value, abc.Sequence) and not is_text else None
 
 
-def _plain_or_raised(value: Any) -> Union[dict, list]:
+def _plain_or_raised(value: Any) -> Any:
     plain = _plain(value)
     if plain is None or plain is value:
         raise TypeError

@@ -3,6 +3,7 @@ import functools
 import itertools
 import operator
 import os
+from decimal import Decimal
 from typing import Any, Iterable, Iterator, List, Mapping, Optional, Protocol, Sequence, Tuple, Union
 
 from . import _engine, _numbers
@@ -329,7 +330,7 @@ class _Readable(Protocol):
 # anything else is written as JSON.
 Asked = Union[
     str, bytes, bytearray, memoryview, "os.PathLike[str]", "os.PathLike[bytes]", _Readable,
-    Mapping[Any, Any], Sequence[Any], int, float, None, Document,
+    Mapping[Any, Any], Sequence[Any], int, float, Decimal, None, Document,
 ]
 Asking = Union[str, Query]
 
