@@ -28,7 +28,7 @@ place_unproved() {
 copy_packages() {
     mkdir -p "$1/bindings"
     cp -r "$root"/bindings/{compare,rows.py,rows.jsonl,go,node,python} "$1/bindings"
-    ln -s "$root"/{crates,tools,LICENSE-APACHE,LICENSE-MIT} "$1"
+    ln -s "$root"/{crates,hostile,tools,LICENSE-APACHE,LICENSE-MIT} "$1"
 }
 
 # The class path of Jackson for Java: the one that JP_JACKSON names, or that of Debian's package, or none.

@@ -2,14 +2,18 @@
 """Measures what strangers can make a call take that has limits, and prints the rows of docs/EMBED.md's table: of each
 the error or the nodes, the milliseconds of processor, the least of some calls, and how many megabytes the process grew.
 
+    strangers.py [decimal|whole]    with numbers of that kind
+
 It takes the library that bindings/build put into the package.
 """
 import multiprocessing
 import resource
+import sys
 import time
 
 import jsonpath_jp as jp
 
+NUMBERS = sys.argv[1] if sys.argv[1:] else "decimal"
 LIMITS = {"limit": 1_000_000, "max_nodes": 10_000, "max_bytes": 1_000_000}
 QUERY, DOCUMENT = 4_000, 1_000_000
 TIMES = 3
@@ -56,7 +60,7 @@ def measured(row):
     for _ in range(TIMES):
         start = time.process_time()
         try:
-            came = f"{len(jp.find(query, document, **LIMITS)):,} nodes"
+            came = f"{len(jp.find(query, document, numbers=NUMBERS, **LIMITS)):,} nodes"
         except jp.Error as fault:
             came = f"`{getattr(fault, 'kind', type(fault).__name__)}`"
         taken = time.process_time() - start

@@ -7,6 +7,7 @@ from . import _numbers
 from ._errors import DocumentError, QueryError, StepsUsedUp, TooManyBytes, TooManyNodes
 from ._library import Place, Report, library
 from ._limits import ANY, LARGEST_AT_ONCE, Most
+from ._profiles import numbers_of
 from ._threads import on_a_thread, waited_for
 
 _NO_MEMORY_TEXT = "jp ran out of memory"
@@ -122,7 +123,7 @@ def refusal(
         parts = (_part(query, profile, part) for part in (_numbers.SENTENCE, _numbers.SUGGESTION))
         return QueryError(_kind_name(_numbers.QUERY_REFUSED, report.kind), report.place, query, *parts)
     if report.status == _numbers.DOCUMENT_REFUSED:
-        misreading = () if document is None else _misreading(document)
+        misreading = () if document is None else _misreading(document, profile)
         return DocumentError(
             _kind_name(_numbers.DOCUMENT_REFUSED, report.kind), text or None, *misreading
         )
@@ -130,7 +131,16 @@ def refusal(
         return MemoryError(_NO_MEMORY_TEXT)
     if report.status == _numbers.NO_STACK:
         raise NoStack
-    return None
+    return _other_numbers(profile) if report.status == _numbers.OTHER_NUMBERS else None
+
+
+def _other_numbers(profile: int) -> ValueError:
+    """The error of a query of the profile over a document that was read with the other numbers."""
+    asked = numbers_of(profile)
+    read = "whole" if asked == "decimal" else "decimal"
+    return ValueError(
+        f"the document is kept with numbers={read!r}, and the query has numbers={asked!r}: give both the same"
+    )
 
 
 # The errors of a limit, each with where that stands among the others.
@@ -155,16 +165,16 @@ def _part(query: str, profile: int, part: int) -> Optional[str]:
     return told(library.jp_explain, text, len(text), profile, part)[1] or None
 
 
-def _misreading(document: bytes) -> Tuple[Any, ...]:
+def _misreading(document: bytes, profile: int) -> Tuple[Any, ...]:
     """Where a document that is refused goes wrong, the name of the reason, the sentence for it, and a suggestion or
     None; nothing of one that is too large to be read."""
     place = Place()
-    reason = _part_of_misreading(document, _numbers.DOCUMENT_REASON, place)
+    reason = _part_of_misreading(document, profile, _numbers.DOCUMENT_REASON, place)
     if reason is None:
         return ()
     # The sentence goes by the reason alone, so it is asked for once.
     if reason not in _sentences:
-        _sentences[reason] = _part_of_misreading(document, _numbers.DOCUMENT_SENTENCE, place)
+        _sentences[reason] = _part_of_misreading(document, profile, _numbers.DOCUMENT_SENTENCE, place)
     suggestion = _BY_LINES if reason == "AfterValue" and _is_of_lines(document[: place.offset]) else None
     return place.offset, place.line, place.column, reason, _sentences[reason], suggestion
 
@@ -179,18 +189,11 @@ def _is_of_lines(before: bytes) -> bool:
     return before.rstrip(b" \t").endswith(b"\n") and b"\n" not in before.strip()
 
 
-def _part_of_misreading(document: bytes, part: int, place: Place) -> Optional[str]:
-    report, text = told(library.jp_explain_document, document, len(document), _numbers.STANDARD, part, place)
+def _part_of_misreading(document: bytes, profile: int, part: int, place: Place) -> Optional[str]:
+    report, text = told(library.jp_explain_document, document, len(document), profile, part, place)
     if report.status == _numbers.NO_MEMORY:
         raise MemoryError(_NO_MEMORY_TEXT)
     return text if report.status == _numbers.DONE else None
-
-
-@with_room
-def beyond_float() -> Tuple[str, Optional[str]]:
-    """The name of the reason of a number that is too large for a float, and the sentence for it."""
-    _, _, _, reason, sentence, _ = _misreading(b"1e400")
-    return reason, sentence
 
 
 def encoded(query: str) -> bytes:

@@ -5,9 +5,9 @@ import json
 import math
 import os
 from collections import abc
-from typing import Any, Callable, List, NoReturn, Optional, Tuple, Union
+from decimal import Decimal
+from typing import Any, Callable, Iterator, List, NoReturn, Optional, Tuple, Union
 
-from ._calls import beyond_float
 from ._errors import DocumentError, printable
 from ._orjson import bytes_by_orjson
 from ._paths import Step, path_of
@@ -18,27 +18,30 @@ Default = Optional[Callable[[Any], Any]]
 _MOST_LEVELS = 127
 
 
-def _writer(default: Default, sort_keys: bool) -> Callable[[Any], str]:
+def _writer(default: Default) -> Callable[[Any], str]:
     how = {"ensure_ascii": False, "separators": (",", ":"), "allow_nan": False}
-    return json.JSONEncoder(default=default, sort_keys=sort_keys, **how).encode
+    return json.JSONEncoder(default=default, sort_keys=True, **how).encode
 
 
-def _plain(value: Any) -> Union[dict, list, None]:
-    """The dict or the list that a mapping or a sequence of another type is written as; None of what is neither."""
+def _plain(value: Any) -> Union[dict, list, Decimal, None]:
+    """The dict or the list that a mapping or a sequence of another type is written as, and a decimal itself; None of
+    what is none of these."""
+    if isinstance(value, Decimal):
+        return value
     if isinstance(value, abc.Mapping):
         return dict(value)
     is_text = isinstance(value, (bytes, bytearray, memoryview, collections.UserString))
     return list(value) if isinstance(value, abc.Sequence) and not is_text else None
 
 
-def _plain_or_raised(value: Any) -> Union[dict, list]:
+def _plain_or_raised(value: Any) -> Any:
     plain = _plain(value)
-    if plain is None:
+    if plain is None or plain is value:
         raise TypeError
     return plain
 
 
-_write = _writer(_plain_or_raised, True)
+_write = _writer(_plain_or_raised)
 
 
 def json_bytes(document: Any, default: Default = None) -> bytes:
@@ -74,59 +77,71 @@ def _read(file: Any) -> bytes:
 
 def _written(value: Any, default: Default) -> str:
     # Keys are sorted, which the engine does with them anyway, and which fails where a text and another kind
-    # of key stand side by side. Only such may be written alike.
+    # of key stand side by side. Only such may be written alike. It fails at a decimal too.
     with contextlib.suppress(TypeError, ValueError, RecursionError):
-        return (_write if default is None else _writer(default, True))(value)
+        return (_write if default is None else _writer(default))(value)
     try:
-        _refuse(value, default, [], ())
-        return _writer(default or _plain_or_raised, False)(value)
+        return _text(value, default, [], ())
     except RecursionError:
         raise _too_deep() from None
 
 
-def _refuse(value: Any, default: Default, steps: List[Step], above: Tuple[int, ...]) -> None:
-    """Raises the error of the first thing in the value that is no JSON, if there is any. Above it stand the objects
-    of these identities."""
-    if value is None or isinstance(value, str):
-        return
+_WORDS = {None: "null", True: "true", False: "false"}
+
+
+def _text(value: Any, default: Default, steps: List[Step], above: Tuple[int, ...]) -> str:
+    """The JSON text of the value at a path, with each number exact. Raises the error of the first thing in it that is
+    no JSON, if there is any. Above it stand the objects of these identities."""
+    if isinstance(value, str):
+        return _write(value)
+    if value is None or isinstance(value, bool):
+        return _WORDS[value]
     if isinstance(value, int):
-        _refuse_digits(value, steps)
-        return
+        return _digits(value)
     if isinstance(value, float):
-        if not math.isfinite(value):
-            _raise_no_json(steps, f"{json.dumps(value)} is no JSON number.")
-        return
+        return _finite(float.__repr__(value), math.isfinite(value), steps)
     if id(value) in above:
         _raise_no_json(steps, f"A {type(value).__name__} stands inside itself.")
-    _refuse_parts(value, default, steps, (*above, id(value)))
+    return _text_of_parts(value, default, steps, (*above, id(value)))
 
 
-def _refuse_parts(value: Any, default: Default, steps: List[Step], above: Tuple[int, ...]) -> None:
+def _text_of_parts(value: Any, default: Default, steps: List[Step], above: Tuple[int, ...]) -> str:
     if isinstance(value, (dict, list, tuple)) and len(steps) == _MOST_LEVELS:
         raise _too_deep()
     if isinstance(value, dict):
-        _refuse_members(value, default, steps, above)
-    elif isinstance(value, (list, tuple)):
-        for index, item in enumerate(value):
-            _refuse(item, default, [*steps, index], above)
-    else:
-        part = _plain(value) if default is None else default(value)
-        if part is None and default is None:
-            name, path = type(value).__name__, printable(path_of(steps))
-            raise TypeError(f"no JSON is made of a {name}, as at {path}: give default=, as to json.dumps")
-        _refuse(part, default, steps, above)
+        return "{" + ",".join(_members(value, default, steps, above)) + "}"
+    if isinstance(value, (list, tuple)):
+        return "[" + ",".join([_text(item, default, [*steps, at], above) for at, item in enumerate(value)]) + "]"
+    part = _plain(value) if default is None else default(value)
+    if isinstance(part, Decimal) and part is value:
+        return _finite(Decimal.__str__(part), Decimal.is_finite(part), steps)
+    if part is None and default is None:
+        name, path = type(value).__name__, printable(path_of(steps))
+        raise TypeError(f"no JSON is made of a {name}, as at {path}: give default=, as to json.dumps")
+    return _text(part, default, steps, above)
 
 
-def _refuse_digits(number: int, steps: List[Step]) -> None:
+def _finite(number: str, is_finite: bool, steps: List[Step]) -> str:
+    """The text of a number, which JSON has where it is finite."""
+    if not is_finite:
+        _raise_no_json(steps, f"{_NO_NUMBERS.get(number, number)} is no JSON number.")
+    return number
+
+
+# As JSON's writers spell them.
+_NO_NUMBERS = {"nan": "NaN", "inf": "Infinity", "-inf": "-Infinity"}
+
+
+def _digits(number: int) -> str:
+    """All digits of a whole number."""
     try:
-        int.__repr__(number)
+        return int.__repr__(number)
     except ValueError:
-        # Python writes so many digits in no text, whatever may be read there.
-        reason, sentence = beyond_float()
-        raise DocumentError("NotJson", path_of(steps), reason=reason, sentence=sentence) from None
+        # Of so many digits Python writes none, to spare time, which a decimal does not take.
+        return Decimal.__str__(Decimal(number))
 
 
-def _refuse_members(value: dict, default: Default, steps: List[Step], above: Tuple[int, ...]) -> None:
+def _members(value: dict, default: Default, steps: List[Step], above: Tuple[int, ...]) -> Iterator[str]:
     keys = {}
     for key, item in value.items():
         name = _name_of(key, steps)
@@ -134,7 +149,7 @@ def _refuse_members(value: dict, default: Default, steps: List[Step], above: Tup
             both = f"The keys {keys[name]!r} and {key!r}"
             _raise_no_json(steps, f"{both} have one name in JSON, {json.dumps(name)}.")
         keys[name] = key
-        _refuse(item, default, [*steps, name], above)
+        yield f"{_write(name)}:{_text(item, default, [*steps, name], above)}"
 
 
 def _name_of(key: Any, steps: List[Step]) -> str:
@@ -144,10 +159,7 @@ def _name_of(key: Any, steps: List[Step]) -> str:
     if key is None or isinstance(key, bool):
         return json.dumps(key)
     if isinstance(key, int):
-        try:
-            return int.__repr__(key)
-        except ValueError:
-            _raise_no_json(steps, "A key has more digits than Python writes.")
+        return _digits(key)
     if not isinstance(key, float):
         name = type(key).__name__
         path = printable(path_of(steps))

@@ -58,7 +58,7 @@ def _evaluate_many(queries: Sequence[str], document: bytes, form: int, profile: 
 
 def _answer_late(queries, answers, document, form, profile, most, made) -> Answers:
     """The answers, with those that need longer runs than these were."""
-    kept = KeptDocument(document)
+    kept = KeptDocument(document, profile)
     for at, query in enumerate(queries):
         if is_short(answers[at], most) and not is_left():
             answers[at] = KeptQuery(query, profile).go_on(kept, form, ALL, most, made)

@@ -54,8 +54,9 @@ class QueryError(Error, ValueError):
 class DocumentError(Error, ValueError):
     """A document that is refused.
 
-    kind: what is wrong with it: "NotJson", "NotWhole", "ListTooLong" or "DocumentTooLarge". path: of
-    "NotWhole", the normalized path of the first number that is not a whole one of 64 bits, else None.
+    kind: what is wrong with it: "NotJson", "NumberRange", "NotWhole", "ListTooLong" or "DocumentTooLarge".
+    path: of "NumberRange" the normalized path of the first number that is too much for a decimal, and of
+    "NotWhole", where numbers are whole, of the first that is not a whole one of 64 bits; else None.
     offset: the byte of the document, in UTF-8, where it goes wrong, from 0. line and column: the same, in
     characters, both from 1. reason: the name of the reason, as "TrailingComma". sentence: the reason in
     words. These five are None of "DocumentTooLarge", of which nothing was read. suggestion: how a text is

@@ -3,7 +3,7 @@ import ctypes
 import threading
 from typing import List, Optional, Tuple, Union
 
-from . import _limits, _numbers
+from . import _limits
 from ._calls import LARGEST_KEPT, NoStack, accepted, answer_of, encoded, raised, reading, refusal, with_room
 from ._errors import Error
 from ._library import Cursor, Handle, Report, Text, library
@@ -25,12 +25,12 @@ class _Reading:
 
     __slots__ = ("handle", "lock", "forks")
 
-    def __init__(self, text: bytes) -> None:
+    def __init__(self, text: bytes, profile: int) -> None:
         self.handle = Handle()
         self.lock = threading.Lock()
         self.forks = forks[0]
-        arguments = (text, len(text), _numbers.STANDARD, self.handle)
-        raised(answer_of(library.jp_document_new, "", _numbers.STANDARD, *arguments, document=text))
+        arguments = (text, len(text), profile, self.handle)
+        raised(answer_of(library.jp_document_new, "", profile, *arguments, document=text))
 
     def is_lost(self) -> bool:
         """Whether a thread used it when this process was forked, and so will never give it back."""
@@ -51,13 +51,14 @@ _lost: List[_Reading] = []
 
 class KeptDocument:
     """A document in a handle, with its text, from which it is read again where the handle was left to
-    another. Raises its error."""
+    another. Its numbers are those of the profile. Raises its error."""
 
-    __slots__ = ("text", "_reading")
+    __slots__ = ("text", "profile", "_reading")
 
-    def __init__(self, text: bytes) -> None:
+    def __init__(self, text: bytes, profile: int) -> None:
         self.text = text
-        self._reading: Optional[_Reading] = reading(len(text), with_room(_Reading), text)
+        self.profile = profile
+        self._reading: Optional[_Reading] = reading(len(text), with_room(_Reading), text, profile)
 
     def asked_by(self, asker: "_Asker", form: int, wanted: Wanted, run: Run) -> int:
         read = self._reading
@@ -65,7 +66,7 @@ class KeptDocument:
             _lost.append(read)
             read = None
         if read is None:
-            read = self._reading = reading(len(self.text), _Reading, self.text)
+            read = self._reading = reading(len(self.text), _Reading, self.text, self.profile)
         handles, told = (asker.handle, read.handle), (asker.text, asker.report)
         with read.lock:
             if isinstance(wanted, Cursor):
@@ -139,7 +140,7 @@ class KeptQuery:
     ) -> Union[str, Exception]:
         """What the query answers after a run of so many steps, in runs of ever more, on a thread with room. It ends
         with the run that is made when nobody waits for it any longer."""
-        kept = document if isinstance(document, KeptDocument) else KeptDocument(document)
+        kept = document if isinstance(document, KeptDocument) else KeptDocument(document, self.profile)
         steps = max(GROWTH * made, first_run(len(kept.text)))
         while True:
             answer = self._once(kept, form, wanted, run_of(most, steps))

@@ -6,7 +6,7 @@ try:
 except ImportError:
     orjson = None  # type: ignore[assignment]
 
-# What json.dumps writes in the same way; no float, of which one may be NaN, and no document has one.
+# What json.dumps writes in the same way, besides some floats.
 _WRITTEN = frozenset({str, int, bool, type(None)})
 _NESTED = frozenset({dict, list, tuple})
 # As deep as a document may nest.
@@ -30,10 +30,16 @@ def _is_written(parts: Any, levels: int) -> bool:
     UUID, and goes down in tuples without an end."""
     for part in parts:
         kind = type(part)
-        if kind in _WRITTEN:
+        if kind in _WRITTEN or (kind is float and _is_without_exponent(part)):
             continue
         if kind not in _NESTED or levels == 0:
             return False
         if not _is_written(part.values() if kind is dict else part, levels - 1):
             return False
     return True
+
+
+def _is_without_exponent(number: float) -> bool:
+    """Whether both write the number by its digits alone; else their exponents differ. NaN, which orjson writes as null,
+    is no such number."""
+    return 1e-4 <= abs(number) < 1e16 or number == 0

@@ -1,9 +1,9 @@
 """Queries over documents, as Python has them."""
 import functools
 import itertools
-import json
 import operator
 import os
+from decimal import Decimal
 from typing import Any, Iterable, Iterator, List, Mapping, Optional, Protocol, Sequence, Tuple, Union
 
 from . import _engine, _numbers
@@ -12,6 +12,8 @@ from ._errors import DocumentError, Error, QueryError, QueryFault
 from ._kept import ALL, FIRST, Cursor, KeptDocument, KeptQuery, Span
 from ._limits import ANY, Most
 from ._paths import Step, pointer_of, steps_of
+from ._profiles import Numbers, is_extended, numbers_of, profile_of
+from ._values import Decimals, checked, value_of
 
 # The values of so many matches are made together at most.
 _LARGEST_PAGE = 64
@@ -25,16 +27,17 @@ class Match:
     """A node that a query selects.
 
     path: its normalized path (RFC 9535, section 2.7). pointer: its JSON Pointer (RFC 6901). steps: the names and
-    indexes of the path, from the root on. text: its value as compact JSON. value: its value as a Python object, made
-    when it is first asked for, and kept; whole numbers are exact.
+    indexes of the path, from the root on. text: its value as compact JSON, in which each number is exact. value: its
+    value as a Python object, made when it is first asked for, and kept: a whole number is an `int`, and another what
+    `decimals` of the call makes of its text, or else a `float`.
     """
 
     # The path and the text are parted when one is asked for: most of what a call takes here is to make these.
     __slots__ = ("_line", "_page", "_at", "_steps", "_value")
 
-    def __init__(self, path: str, text: str) -> None:
+    def __init__(self, path: str, text: str, decimals: Decimals = None) -> None:
         self._line = f"{path}\t{text}"
-        self._page: Union[_Page, _Alone, None] = _ALONE
+        self._page: Union[_Page, _Alone] = _alone(checked(decimals))
 
     @property
     def path(self) -> str:
@@ -46,11 +49,13 @@ class Match:
 
     @property
     def value(self) -> Any:
-        page = self._page
-        if page is not None:
-            self._value = page.value(self)
-            # Last, since another thread that finds no page takes the value.
-            self._page = None
+        try:
+            return self._value
+        except AttributeError:
+            page = self._page
+        self._value = page.value(self)
+        # The texts of the page are no longer needed.
+        self._page = page.alone
         return self._value
 
     @property
@@ -82,50 +87,64 @@ class Match:
         return hash(self._line)
 
     def __reduce__(self) -> Tuple[Any, ...]:
-        return Match, (self.path, self.text)
+        return Match, (self.path, self.text, self._page.alone.decimals)
 
 
 class _Page:
     """Some matches that stand beside one another in an answer. Their values are made together when the first of them is
     asked for."""
 
-    __slots__ = ("_lines", "_values")
+    __slots__ = ("alone", "_lines", "_values")
 
-    def __init__(self, lines: List[str]) -> None:
+    def __init__(self, lines: List[str], alone: "_Alone") -> None:
+        self.alone = alone
         self._lines = lines
         self._values: Optional[List[Any]] = None
 
     def value(self, match: Match) -> Any:
         if self._values is None:
             texts = [line.partition("\t")[2] for line in self._lines]
-            self._values = json.loads(f"[{','.join(texts)}]")
+            self._values = value_of(f"[{','.join(texts)}]", self.alone.decimals)
         return self._values[match._at]
 
 
 class _Alone:
     """In place of a page, where the value of a match is made by itself."""
 
-    __slots__ = ()
+    __slots__ = ("decimals",)
+
+    def __init__(self, decimals: Decimals) -> None:
+        self.decimals = decimals
+
+    @property
+    def alone(self) -> "_Alone":
+        return self
 
     def value(self, match: Match) -> Any:
-        return json.loads(match.text)
+        return value_of(match.text, self.decimals)
 
 
-_ALONE = _Alone()
+_ALONE = _Alone(None)
+
+
+def _alone(decimals: Decimals) -> _Alone:
+    return _ALONE if decimals is None else _Alone(decimals)
 
 
 class Query:
     """A query that is accepted, read once and kept by the engine. It can be asked of any number of documents,
-    from any threads at once. Queries are equal where their texts and their profiles are.
+    from any threads at once. Queries are equal where their texts are, whether they may call `distinct`, and which
+    numbers they and their documents have.
 
     Each call takes a document, a limit of steps, what `json.dumps` takes as `default`, for a document that is a
-    Python object, and the most nodes and bytes of an answer.
+    Python object, the most nodes and bytes of an answer, and where it gives values as `decimals` what `json.loads`
+    takes as `parse_float`, for numbers that are not whole.
     """
 
     __slots__ = ("_kept", "__weakref__")
 
-    def __init__(self, text: str, extended: bool = False) -> None:
-        self._kept = KeptQuery(_query(text), _profile(extended))
+    def __init__(self, text: str, extended: bool = False, numbers: Numbers = "decimal") -> None:
+        self._kept = KeptQuery(_query(text), profile_of(extended, numbers))
 
     @property
     def text(self) -> str:
@@ -133,35 +152,42 @@ class Query:
 
     @property
     def extended(self) -> bool:
-        return self._kept.profile == _numbers.EXTENDED
+        return is_extended(self._kept.profile)
+
+    @property
+    def numbers(self) -> Numbers:
+        return numbers_of(self._kept.profile)
 
     def find(
         self, document: "Asked", limit: Optional[int] = None, default: Default = None,
-        *, max_nodes: Optional[int] = None, max_bytes: Optional[int] = None,
+        *, max_nodes: Optional[int] = None, max_bytes: Optional[int] = None, decimals: Decimals = None,
     ) -> List["Match"]:
         """The nodes that the query selects, in the order of RFC 9535; one that is selected twice stands
         there twice. Raises `DocumentError`, and where there is a limit and the query goes beyond it
         `StepsUsedUp`, `TooManyNodes` or `TooManyBytes`."""
-        return _matches(self._asked(document, _numbers.BOTH, ALL, default, limit, max_nodes, max_bytes))
+        alone = _alone(checked(decimals))
+        return _matches(self._asked(document, _numbers.BOTH, ALL, default, limit, max_nodes, max_bytes), alone)
 
     def find_one(
         self, document: "Asked", limit: Optional[int] = None, default: Default = None,
-        *, max_nodes: Optional[int] = None, max_bytes: Optional[int] = None,
+        *, max_nodes: Optional[int] = None, max_bytes: Optional[int] = None, decimals: Decimals = None,
     ) -> Optional["Match"]:
         """The first of the nodes that `find` gives, or None. The evaluation ends with it."""
+        alone = _alone(checked(decimals))
         text = self._asked(document, _numbers.BOTH, FIRST, default, limit, max_nodes, max_bytes)
-        return _match(text[:-1]) if text else None
+        return _match(text[:-1], alone) if text else None
 
     def finditer(
-        self, document: "Asked", limit: Optional[int] = None, default: Default = None
+        self, document: "Asked", limit: Optional[int] = None, default: Default = None, *, decimals: Decimals = None
     ) -> Iterator["Match"]:
         """The nodes that `find` gives, looked for as they are asked for: the first is found without the others,
         in pages. The document is read at once, and kept as long as the iterator.
         Where all nodes need more steps than the limit some of the first may be given, and then `StepsUsedUp`
         is raised. There is no other limit."""
-        most, default = _most(limit, None, None), _default(default)
-        kept = document._kept if isinstance(document, Document) else KeptDocument(json_bytes(document, default))
-        return _each(self._kept, kept, most)
+        most, default, alone = _most(limit, None, None), _default(default), _alone(checked(decimals))
+        if isinstance(document, Document):
+            return _each(self._kept, document._kept, most, alone)
+        return _each(self._kept, KeptDocument(json_bytes(document, default), self._kept.profile), most, alone)
 
     def paths(
         self, document: "Asked", limit: Optional[int] = None, default: Default = None,
@@ -172,10 +198,11 @@ class Query:
 
     def values(
         self, document: "Asked", limit: Optional[int] = None, default: Default = None,
-        *, max_nodes: Optional[int] = None, max_bytes: Optional[int] = None,
+        *, max_nodes: Optional[int] = None, max_bytes: Optional[int] = None, decimals: Decimals = None,
     ) -> List[Any]:
         """The values of the nodes that `find` gives, as Python objects."""
-        return _values(self._asked(document, _numbers.VALUES, ALL, default, limit, max_nodes, max_bytes))
+        decimals = checked(decimals)
+        return _values(self._asked(document, _numbers.VALUES, ALL, default, limit, max_nodes, max_bytes), decimals)
 
     def exists(
         self, document: "Asked", limit: Optional[int] = None, default: Default = None,
@@ -202,84 +229,96 @@ class Query:
         return self.text
 
     def __repr__(self) -> str:
-        return f"Query({self.text!r}, extended={self.extended})"
+        return f"Query({self.text!r}, extended={self.extended}, numbers={self.numbers!r})"
 
     def __eq__(self, other: object) -> bool:
         if not isinstance(other, Query):
             return NotImplemented
-        return (self.text, self.extended) == (other.text, other.extended)
+        return (self.text, self._kept.profile) == (other.text, other._kept.profile)
 
     def __hash__(self) -> int:
-        return hash((self.text, self.extended))
+        return hash((self.text, self._kept.profile))
 
     def __reduce__(self) -> Tuple[Any, ...]:
-        return Query, (self.text, self.extended)
+        return Query, (self.text, self.extended, self.numbers)
 
 
 class Document:
     """A document that is read once and kept by the engine, with its text. Any number of queries can be asked
     of it, from any threads; of calls at once over one document each waits for the one before.
 
-    Each call takes a `Query`, or a query's text, the last 64 of which are kept with what was read of them.
-    Raises `DocumentError` where it is refused.
+    Each call takes a `Query`, or a query's text, which has the numbers of the document, and of which the last 64 are
+    kept with what was read of them. A `Query` with other numbers is a `ValueError`. Raises `DocumentError` where it
+    is refused.
     """
 
     __slots__ = ("_kept", "__weakref__")
 
-    def __init__(self, document: "Asked", default: Default = None) -> None:
-        self._kept = KeptDocument(json_bytes(document, _default(default)))
+    def __init__(self, document: "Asked", default: Default = None, numbers: Numbers = "decimal") -> None:
+        profile = profile_of(False, numbers)
+        self._kept = KeptDocument(json_bytes(document, _default(default)), profile)
 
     @property
     def text(self) -> bytes:
         """The JSON text from which it was read, in UTF-8."""
         return self._kept.text
 
+    @property
+    def numbers(self) -> Numbers:
+        return numbers_of(self._kept.profile)
+
     def find(
         self, query: "Asking", extended: bool = False, limit: Optional[int] = None,
-        *, max_nodes: Optional[int] = None, max_bytes: Optional[int] = None,
+        *, max_nodes: Optional[int] = None, max_bytes: Optional[int] = None, decimals: Decimals = None,
     ) -> List["Match"]:
         """What `Query.find` gives. Raises `QueryError`, where a text is refused, and the errors of its limits."""
-        return _compiled(query, extended).find(self, limit, max_nodes=max_nodes, max_bytes=max_bytes)
+        asked = self._asked_by(query, extended)
+        return asked.find(self, limit, max_nodes=max_nodes, max_bytes=max_bytes, decimals=decimals)
 
     def find_one(
         self, query: "Asking", extended: bool = False, limit: Optional[int] = None,
-        *, max_nodes: Optional[int] = None, max_bytes: Optional[int] = None,
+        *, max_nodes: Optional[int] = None, max_bytes: Optional[int] = None, decimals: Decimals = None,
     ) -> Optional["Match"]:
         """What `Query.find_one` gives. Raises `QueryError`, where a text is refused, and the errors of its limits."""
-        return _compiled(query, extended).find_one(self, limit, max_nodes=max_nodes, max_bytes=max_bytes)
+        asked = self._asked_by(query, extended)
+        return asked.find_one(self, limit, max_nodes=max_nodes, max_bytes=max_bytes, decimals=decimals)
 
     def finditer(
-        self, query: "Asking", extended: bool = False, limit: Optional[int] = None
+        self, query: "Asking", extended: bool = False, limit: Optional[int] = None, *, decimals: Decimals = None
     ) -> Iterator["Match"]:
         """What `Query.finditer` gives. Raises `QueryError`, where a text is refused, and `StepsUsedUp`."""
-        return _compiled(query, extended).finditer(self, limit)
+        return self._asked_by(query, extended).finditer(self, limit, decimals=decimals)
 
     def paths(
         self, query: "Asking", extended: bool = False, limit: Optional[int] = None,
         *, max_nodes: Optional[int] = None, max_bytes: Optional[int] = None,
     ) -> List[str]:
         """What `Query.paths` gives. Raises `QueryError`, where a text is refused, and the errors of its limits."""
-        return _compiled(query, extended).paths(self, limit, max_nodes=max_nodes, max_bytes=max_bytes)
+        return self._asked_by(query, extended).paths(self, limit, max_nodes=max_nodes, max_bytes=max_bytes)
 
     def values(
         self, query: "Asking", extended: bool = False, limit: Optional[int] = None,
-        *, max_nodes: Optional[int] = None, max_bytes: Optional[int] = None,
+        *, max_nodes: Optional[int] = None, max_bytes: Optional[int] = None, decimals: Decimals = None,
     ) -> List[Any]:
         """What `Query.values` gives. Raises `QueryError`, where a text is refused, and the errors of its limits."""
-        return _compiled(query, extended).values(self, limit, max_nodes=max_nodes, max_bytes=max_bytes)
+        asked = self._asked_by(query, extended)
+        return asked.values(self, limit, max_nodes=max_nodes, max_bytes=max_bytes, decimals=decimals)
 
     def exists(
         self, query: "Asking", extended: bool = False, limit: Optional[int] = None,
         *, max_nodes: Optional[int] = None, max_bytes: Optional[int] = None,
     ) -> bool:
         """What `Query.exists` gives. Raises `QueryError`, where a text is refused, and the errors of its limits."""
-        return _compiled(query, extended).exists(self, limit, max_nodes=max_nodes, max_bytes=max_bytes)
+        return self._asked_by(query, extended).exists(self, limit, max_nodes=max_nodes, max_bytes=max_bytes)
+
+    def _asked_by(self, query: "Asking", extended: bool) -> Query:
+        return _compiled(query, profile_of(extended, self.numbers))
 
     def __repr__(self) -> str:
         return f"<Document of {len(self.text)} bytes>"
 
     def __reduce__(self) -> Tuple[Any, ...]:
-        return Document, (self.text,)
+        return Document, (self.text, None, self.numbers)
 
 
 class _Readable(Protocol):
@@ -291,19 +330,19 @@ class _Readable(Protocol):
 # anything else is written as JSON.
 Asked = Union[
     str, bytes, bytearray, memoryview, "os.PathLike[str]", "os.PathLike[bytes]", _Readable,
-    Mapping[Any, Any], Sequence[Any], int, float, None, Document,
+    Mapping[Any, Any], Sequence[Any], int, float, Decimal, None, Document,
 ]
 Asking = Union[str, Query]
 
 
-def compile(query: str, extended: bool = False) -> Query:
+def compile(query: str, extended: bool = False, numbers: Numbers = "decimal") -> Query:
     """The query, to be asked of documents. Raises `QueryError` where it is not accepted."""
-    return Query(query, extended)
+    return Query(query, extended, numbers)
 
 
-def parse(query: str, extended: bool = False) -> Query:
+def parse(query: str, extended: bool = False, numbers: Numbers = "decimal") -> Query:
     """What `compile` gives, by the name that jsonpath-ng has for it."""
-    return Query(query, extended)
+    return Query(query, extended, numbers)
 
 
 def find(
@@ -315,11 +354,17 @@ def find(
     *,
     max_nodes: Optional[int] = None,
     max_bytes: Optional[int] = None,
+    numbers: Numbers = "decimal",
+    decimals: Decimals = None,
 ) -> List[Match]:
     """The nodes that the query selects, in the order of RFC 9535; one that is selected twice stands
     there twice. Raises `QueryError` or `DocumentError`, the query's first, and where there is a limit and
-    the query goes beyond it `StepsUsedUp`, `TooManyNodes` or `TooManyBytes`."""
-    return _matches(_answer(query, document, _numbers.BOTH, extended, default, limit, max_nodes, max_bytes))
+    the query goes beyond it `StepsUsedUp`, `TooManyNodes` or `TooManyBytes`.
+
+    A `Query` has its own `extended` and `numbers`, whatever these are here. A `Document` is asked with the
+    `numbers` with which it was read; else `ValueError` is raised."""
+    profile, alone = profile_of(extended, numbers), _alone(checked(decimals))
+    return _matches(_answer(query, document, _numbers.BOTH, profile, default, limit, max_nodes, max_bytes), alone)
 
 
 def find_one(
@@ -331,10 +376,12 @@ def find_one(
     *,
     max_nodes: Optional[int] = None,
     max_bytes: Optional[int] = None,
+    numbers: Numbers = "decimal",
+    decimals: Decimals = None,
 ) -> Optional[Match]:
     """The first of the nodes that `find` gives, or None. The evaluation ends with it."""
-    kept = _new(query, document, extended)
-    return kept.find_one(document, limit, default, max_nodes=max_nodes, max_bytes=max_bytes)
+    kept = _new(query, document, profile_of(extended, numbers))
+    return kept.find_one(document, limit, default, max_nodes=max_nodes, max_bytes=max_bytes, decimals=decimals)
 
 
 def finditer(
@@ -343,9 +390,13 @@ def finditer(
     extended: bool = False,
     limit: Optional[int] = None,
     default: Default = None,
+    *,
+    numbers: Numbers = "decimal",
+    decimals: Decimals = None,
 ) -> Iterator[Match]:
     """The nodes that `find` gives, looked for as they are asked for, as `Query.finditer` does."""
-    return _new(query, document, extended).finditer(document, limit, default)
+    kept = _new(query, document, profile_of(extended, numbers))
+    return kept.finditer(document, limit, default, decimals=decimals)
 
 
 def find_many(
@@ -357,6 +408,8 @@ def find_many(
     *,
     max_nodes: Optional[int] = None,
     max_bytes: Optional[int] = None,
+    numbers: Numbers = "decimal",
+    decimals: Decimals = None,
 ) -> List[Union[List[Match], Error]]:
     """What `find` gives for each query, over one document, each with the whole limits. A query that is
     refused, or goes beyond a limit, has its error in the list, and ends nothing. Raises
@@ -364,14 +417,13 @@ def find_many(
     is none."""
     if isinstance(queries, (str, Query)):
         raise TypeError("find_many takes many queries, as a list, and not one: find(query, document)")
+    profile, alone = profile_of(extended, numbers), _alone(checked(decimals))
     most, default = _most(limit, max_nodes, max_bytes), _default(default)
     if isinstance(document, Document):
-        return [_find_or_error(query, document, extended, *most) for query in queries]
-    texts = [_query(query) for query in queries]
-    answers = _engine.evaluate_many(
-        texts, json_bytes(document, default), _numbers.BOTH, _profile(extended), most
-    )
-    return [_matches(answer) if isinstance(answer, str) else answer for answer in answers]
+        answers = [_lines_or_error(query, document._kept, profile, most) for query in queries]
+    else:
+        answers = _many_answers(list(queries), document, profile, default, most)
+    return [_matches(answer, alone) if isinstance(answer, str) else answer for answer in answers]
 
 
 def paths(
@@ -383,9 +435,11 @@ def paths(
     *,
     max_nodes: Optional[int] = None,
     max_bytes: Optional[int] = None,
+    numbers: Numbers = "decimal",
 ) -> List[str]:
     """The normalized paths of the nodes that `find` gives."""
-    return _lines(_answer(query, document, _numbers.PATHS, extended, default, limit, max_nodes, max_bytes))
+    profile = profile_of(extended, numbers)
+    return _lines(_answer(query, document, _numbers.PATHS, profile, default, limit, max_nodes, max_bytes))
 
 
 def values(
@@ -397,9 +451,12 @@ def values(
     *,
     max_nodes: Optional[int] = None,
     max_bytes: Optional[int] = None,
+    numbers: Numbers = "decimal",
+    decimals: Decimals = None,
 ) -> List[Any]:
     """The values of the nodes that `find` gives, as Python objects."""
-    return _values(_answer(query, document, _numbers.VALUES, extended, default, limit, max_nodes, max_bytes))
+    profile, decimals = profile_of(extended, numbers), checked(decimals)
+    return _values(_answer(query, document, _numbers.VALUES, profile, default, limit, max_nodes, max_bytes), decimals)
 
 
 def exists(
@@ -411,32 +468,33 @@ def exists(
     *,
     max_nodes: Optional[int] = None,
     max_bytes: Optional[int] = None,
+    numbers: Numbers = "decimal",
 ) -> bool:
     """Whether the query selects a node. The evaluation ends with the first."""
-    kept = _new(query, document, extended)
+    kept = _new(query, document, profile_of(extended, numbers))
     return kept.exists(document, limit, default, max_nodes=max_nodes, max_bytes=max_bytes)
 
 
-def canonical(query: str, extended: bool = False) -> str:
+def canonical(query: str, extended: bool = False, numbers: Numbers = "decimal") -> str:
     """The canonical text of the query: equal for equal queries, however they are spelled. Raises
     `QueryError`."""
-    return _engine.canonical(_query(query), _profile(extended))
+    return _engine.canonical(_query(query), profile_of(extended, numbers))
 
 
-def check(query: str, extended: bool = False) -> None:
+def check(query: str, extended: bool = False, numbers: Numbers = "decimal") -> None:
     """Raises `QueryError` where the query is not accepted."""
-    _engine.check(_query(query), _profile(extended))
+    _engine.check(_query(query), profile_of(extended, numbers))
 
 
 def _answer(
-    query: Asking, document: Asked, form: int, extended: bool, default: Default,
+    query: Asking, document: Asked, form: int, profile: int, default: Default,
     limit: Optional[int], max_nodes: Optional[int], max_bytes: Optional[int],
 ) -> str:
     """The lines of all nodes."""
     if isinstance(query, Query) or isinstance(document, Document):
-        kept = _compiled(query, extended)
+        kept = _compiled(query, profile)
         return kept._asked(document, form, ALL, default, limit, max_nodes, max_bytes)
-    most, text, profile = _most(limit, max_nodes, max_bytes), _query(query), _profile(extended)
+    most, text = _most(limit, max_nodes, max_bytes), _query(query)
     default = _default(default)
     try:
         return _engine.evaluate(text, json_bytes(document, default), form, profile, most)
@@ -457,61 +515,79 @@ def _in_order(fault: QueryError, document: Asked) -> QueryError:
     return QueryError(fault.kind, fault.place, fault.query, sentence)
 
 
-def _find_or_error(
-    query: Asking, document: Document, extended: bool, steps: Optional[int], nodes: Optional[int], size: Optional[int]
-) -> Union[List[Match], Error]:
+def _many_answers(
+    queries: List[Asking], document: Asked, profile: int, default: Default, most: Most
+) -> List[Union[str, Error]]:
+    """The lines of each query over a document that is not kept, or its error."""
+    alike = [_query(query) for query in queries if not _is_of_other(query, profile)]
+    text = json_bytes(document, default)
+    answers = iter(_engine.evaluate_many(alike, text, _numbers.BOTH, profile, most))
+    return [
+        _lines_or_error(query, text, profile, most) if _is_of_other(query, profile) else next(answers)
+        for query in queries
+    ]
+
+
+def _is_of_other(query: Asking, profile: int) -> bool:
+    """Whether the query is kept in another profile."""
+    return isinstance(query, Query) and query._kept.profile != profile
+
+
+def _lines_or_error(
+    query: Asking, document: Union[bytes, KeptDocument], profile: int, most: Most
+) -> Union[str, Error]:
     try:
-        return document.find(query, extended, steps, max_nodes=nodes, max_bytes=size)
+        return _compiled(query, profile)._kept.ask(document, _numbers.BOTH, ALL, most)
     except QueryFault as fault:
         return fault
 
 
-def _new(query: Asking, document: Asked, extended: bool) -> Query:
+def _new(query: Asking, document: Asked, profile: int) -> Query:
     try:
-        return query if isinstance(query, Query) else Query(query, extended)
+        return query if isinstance(query, Query) else Query(query, is_extended(profile), numbers_of(profile))
     except QueryError as fault:
         raise _in_order(fault, document) from None
 
 
-def _compiled(query: Asking, extended: bool) -> Query:
+def _compiled(query: Asking, profile: int) -> Query:
     """The query, which may be kept of a call before."""
-    return query if isinstance(query, Query) else _compiled_text(_query(query), _profile(extended))
+    return query if isinstance(query, Query) else _compiled_text(_query(query), profile)
 
 
 @functools.lru_cache(maxsize=64)
 def _compiled_text(text: str, profile: int) -> Query:
-    return Query(text, profile == _numbers.EXTENDED)
+    return Query(text, is_extended(profile), numbers_of(profile))
 
 
-def _match(line: str) -> Match:
+def _match(line: str, alone: _Alone) -> Match:
     match = _bare(Match)
-    match._line, match._page = line, _ALONE
+    match._line, match._page = line, alone
     return match
 
 
 _bare = object.__new__
 
 
-def _matches(text: str) -> List[Match]:
+def _matches(text: str, alone: _Alone) -> List[Match]:
     lines = _lines(text)
-    return list(_matches_of(lines, len(lines), len(text)))
+    return list(_matches_of(lines, len(lines), len(text), alone))
 
 
-def _matches_of(lines: Iterable[str], count: int, size: int) -> Iterator[Match]:
+def _matches_of(lines: Iterable[str], count: int, size: int, alone: _Alone) -> Iterator[Match]:
     """A match for each of so many lines of so many characters in all, which are taken as matches are asked for: by some
     at once, unless they are few or long."""
     if count <= _FEW or size > _LONG_LINE * count:
-        yield from map(_match, lines)
+        yield from map(_match, lines, itertools.repeat(alone))
         return
     rest, most = iter(lines), 1
     # Who asks for the first value alone waits for that one.
     while page := list(itertools.islice(rest, most)):
-        yield from _page_of(page)
+        yield from _page_of(page, alone)
         most = min(2 * most, _LARGEST_PAGE)
 
 
-def _page_of(lines: List[str]) -> List[Match]:
-    page, matches = _Page(lines), []
+def _page_of(lines: List[str], alone: _Alone) -> List[Match]:
+    page, matches = _Page(lines, alone), []
     for at, line in enumerate(lines):
         # As `_match`, which would cost as much again to call.
         match = _bare(Match)
@@ -525,12 +601,12 @@ def _lines(text: str) -> List[str]:
     return text.split("\n")[:-1]
 
 
-def _each(query: KeptQuery, document: KeptDocument, most: Most) -> Iterator[Match]:
+def _each(query: KeptQuery, document: KeptDocument, most: Most, alone: _Alone) -> Iterator[Match]:
     """The nodes, page by page."""
     cursor = Cursor()
     lines = query.ask(document, _numbers.BOTH, cursor, most)
     while lines:
-        yield from _matches_of(_each_line(lines), lines.count("\n"), len(lines))
+        yield from _matches_of(_each_line(lines), lines.count("\n"), len(lines), alone)
         lines = query.ask(document, _numbers.BOTH, cursor, most)
 
 
@@ -542,8 +618,9 @@ def _each_line(text: str) -> Iterator[str]:
         start = end + 1
 
 
-def _values(text: str) -> List[Any]:
-    return json.loads(f"[{text[:-1]}]".replace("\n", ","))
+def _values(text: str, decimals: Decimals) -> List[Any]:
+    values: List[Any] = value_of(f"[{text[:-1]}]".replace("\n", ","), decimals)
+    return values
 
 
 def _query(query: object) -> str:
@@ -552,12 +629,6 @@ def _query(query: object) -> str:
     if isinstance(query, Query):
         return query.text
     raise TypeError(f"a query is a str, and no {type(query).__name__}; it comes before the document")
-
-
-def _profile(extended: bool) -> int:
-    if not isinstance(extended, bool):
-        raise TypeError(f"extended is True or False, and no {type(extended).__name__}")
-    return _numbers.EXTENDED if extended else _numbers.STANDARD
 
 
 def _most(limit: Optional[int], max_nodes: Optional[int], max_bytes: Optional[int]) -> Most:

@@ -28,6 +28,10 @@ STORE = {
 }
 
 
+# One digit more than a decimal has.
+DIGITS_39 = "123456789012345678901234567890123456789"
+
+
 class Find(unittest.TestCase):
     def test_paths_and_values(self):
         found = jp.find("$.store.book[?@.price<10].title", STORE)
@@ -51,21 +55,25 @@ class Find(unittest.TestCase):
         self.assertEqual(jp.find_many([], "["), [])
         self.assertEqual([error.kind for error in jp.find_many([""], "[")], ["Syntax"])
         with self.assertRaises(jp.DocumentError) as caught:
-            jp.find_many(["", "$"], "[0,2.5]")
+            jp.find_many(["", "$"], "[0,2.5]", numbers="whole")
         self.assertEqual(caught.exception.path, "$[1]")
+        with self.assertRaises(jp.DocumentError) as caught:
+            jp.find_many(["", "$"], f"[0,{DIGITS_39}]")
+        self.assertEqual((caught.exception.kind, caught.exception.path), ("NumberRange", "$[1]"))
 
     def test_whole_numbers_are_exact(self):
         doubles = [2**53 - 1, 2**53, 2**53 + 1, 2**60, 2**63 - 1]
         for whole in [*doubles, *(-it for it in doubles), 2**63, -(2**63), 2**64 - 1]:
-            for document in ([whole], jp.Document([whole])):
-                with self.subTest(whole=whole, document=repr(document)):
-                    self.assertEqual(jp.find_one("$[0]", document).text, str(whole))
-                    self.assertEqual(jp.values("$[0]", document), [whole])
+            for numbers in ("whole", "decimal"):
+                for document in ([whole], jp.Document([whole], numbers=numbers)):
+                    with self.subTest(whole=whole, document=repr(document), numbers=numbers):
+                        self.assertEqual(jp.find_one("$[0]", document, numbers=numbers).text, str(whole))
+                        self.assertEqual(jp.values("$[0]", document, numbers=numbers), [whole])
 
     def test_whole_numbers_beyond_64_bits(self):
         for whole in (2**64, -(2**63) - 1, 10**30):
             with self.assertRaises(jp.DocumentError) as caught:
-                jp.find("$", [0, whole])
+                jp.find("$", [0, whole], numbers="whole")
             fault = caught.exception
             self.assertEqual((fault.kind, fault.path, fault.column), ("NotWhole", "$[1]", 4))
             self.assertEqual(fault.reason, "OutOfRange")
@@ -137,24 +145,26 @@ class Refusals(unittest.TestCase):
             ([1e400], "NotJson", "$[0]", (None, None, None), None),
             ([0.5], "NotWhole", "$[0]", (1, 1, 2), "HasFraction"),
         ]:
-            calls = (jp.find, jp.paths, jp.values, lambda it, document: jp.find_many([it], document))
+            how = {"numbers": "whole"}
+            calls = (jp.find, jp.paths, jp.values, lambda it, document, **how: jp.find_many([it], document, **how))
             for query in ("$", "$.*"):
                 for call in calls:
                     with self.subTest(document=str(document)[:20], query=query):
                         with self.assertRaises(jp.DocumentError) as refused:
-                            call(query, document)
+                            call(query, document, **how)
                         fault = refused.exception
                         self.assertEqual((fault.kind, fault.path), (kind, path))
                         self.assertEqual((fault.offset, fault.line, fault.column), place)
                         self.assertEqual(fault.reason, reason)
 
     def test_what_a_document_error_says(self):
-        for document, text in [
-            ("[1,\n]", "NotJson\nline 2, column 1: "),
-            ("[-0]", "NotWhole at $[0]\nline 1, column 2: "),
+        for document, numbers, text in [
+            ("[1,\n]", "decimal", "NotJson\nline 2, column 1: "),
+            ("[-0]", "whole", "NotWhole at $[0]\nline 1, column 2: "),
+            (f"[-0,\n-{DIGITS_39}]", "decimal", "NumberRange at $[1]\nline 2, column 1: "),
         ]:
             with self.assertRaises(jp.DocumentError) as refused:
-                jp.find("$", document)
+                jp.find("$", document, numbers=numbers)
             fault = refused.exception
             self.assertEqual(str(fault), f"document refused: {text}{fault.sentence}")
             self.assertEqual(str(pickle.loads(pickle.dumps(fault))), str(fault))

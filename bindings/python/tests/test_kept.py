@@ -11,7 +11,7 @@ import unittest
 from unittest import mock
 
 import jsonpath_jp as jp
-from jsonpath_jp import _kept, _queries
+from jsonpath_jp import _kept
 from runs import first_runs
 
 STORE = {
@@ -86,7 +86,7 @@ class Queries(unittest.TestCase):
         query = jp.compile("$..b")
         self.assertEqual(query.values({"b": 1}), [1])
         with self.assertRaises(jp.DocumentError) as caught:
-            query.find('{"b":[0,2.5]}')
+            query.find('{"b":[0,' + "9" * 39 + "]}")
         self.assertEqual((caught.exception.path, caught.exception.offset), ("$['b'][1]", 8))
         with self.assertRaises(jp.DocumentError) as caught:
             query.find('{"b":}')
@@ -163,7 +163,7 @@ class Queries(unittest.TestCase):
         )
 
     def test_finditer_makes_values_when_asked(self):
-        with mock.patch.object(_queries.json, "loads", side_effect=_queries.json.loads) as loads:
+        with mock.patch.object(json, "loads", side_effect=json.loads) as loads:
             each = jp.compile("$[*]").finditer("[1,[2],3]")
             self.assertEqual([next(each).value, next(each).value], [1, [2]])
             self.assertEqual(loads.call_count, 2)
@@ -183,13 +183,14 @@ class Queries(unittest.TestCase):
 
     def test_equal_queries(self):
         query = jp.compile("$.a")
-        self.assertEqual((query.text, str(query), query.extended), ("$.a", "$.a", False))
-        self.assertEqual(repr(query), "Query('$.a', extended=False)")
+        self.assertEqual((query.text, str(query), query.extended, query.numbers), ("$.a", "$.a", False, "decimal"))
+        self.assertEqual(repr(query), "Query('$.a', extended=False, numbers='decimal')")
         same = [jp.parse("$.a"), jp.Query("$.a"), copy.copy(query), pickle.loads(pickle.dumps(query))]
         for other in same:
             self.assertEqual((other, hash(other)), (query, hash(query)))
             self.assertEqual(other.values({"a": 1}), [1])
-        for other in (jp.compile("$['a']"), jp.compile("$.a", extended=True), "$.a", None):
+        whole = jp.compile("$.a", numbers="whole")
+        for other in (jp.compile("$['a']"), jp.compile("$.a", extended=True), whole, "$.a", None):
             self.assertNotEqual(query, other)
         self.assertEqual(len({query, *same, jp.compile("$.b")}), 2)
 
@@ -225,9 +226,12 @@ class Documents(unittest.TestCase):
         self.assertFalse(kept.exists("$.none"))
 
     def test_refusals(self):
-        for document, path in (("[1,]", None), ("[0,2.5]", "$[1]")):
+        for document, numbers, path in [
+            ("[1,]", "whole", None), ("[1,]", "decimal", None), ("[0,2.5]", "whole", "$[1]"),
+            (f"[0,{'9' * 39}]", "decimal", "$[1]"),
+        ]:
             with self.assertRaises(jp.DocumentError) as caught:
-                jp.Document(document)
+                jp.Document(document, numbers=numbers)
             self.assertEqual((caught.exception.path, caught.exception.offset), (path, 3))
         kept = jp.Document(TEXT)
         with self.assertRaises(jp.QueryError) as caught:
@@ -444,7 +448,8 @@ class Growth(unittest.TestCase):
             (lambda: jp.compile(CHEAP), 20_000),
             (lambda: jp.Document(TEXT), 20_000),
             (lambda: self.refused(jp.compile, "$["), 2_000),
-            (lambda: self.refused(query.find, "[1,2.5]"), 2_000),
+            (lambda: query.values("[1,2.5]", decimals=str), 20_000),
+            (lambda: self.refused(query.find, "[1," + "9" * 39 + "]"), 2_000),
             (lambda: self.refused(jp.Document, "[1,"), 2_000),
         ]:
             self.assertLess(self.grown(function, count), 2 << 20)

@@ -4,9 +4,13 @@ import dataclasses
 import datetime
 import decimal
 import enum
+import fractions
 import io
+import math
 import os
 import pathlib
+import random
+import struct
 import sys
 import tempfile
 import types
@@ -51,8 +55,8 @@ WRONG_TYPES = [
     (("$", "[]", 5), "extended is True or False, and no int"),
     (("$", "[]", False, "5"), "a limit is a number of steps, and no str"),
     (("$", "[]", False, 1.5), "a limit is a number of steps, and no float"),
-    (("$", {"a": [decimal.Decimal(1)]}),
-     "no JSON is made of a Decimal, as at $['a'][0]: give default=, as to json.dumps"),
+    (("$", {"a": [fractions.Fraction(1)]}),
+     "no JSON is made of a Fraction, as at $['a'][0]: give default=, as to json.dumps"),
     (("$", [0, {1, 2}]), "no JSON is made of a set, as at $[1]: give default=, as to json.dumps"),
     (("$", [b"x"]), "no JSON is made of a bytes, as at $[0]: give default=, as to json.dumps"),
     (("$", {"a": {(1, 2): 3}}), "a key is a str, int, float, bool or None, and no tuple, as at $['a']"),
@@ -63,6 +67,10 @@ NO_JSON = [
     ([0, float("nan")], "$[1]", "NaN is no JSON number."),
     ({"a": float("inf")}, "$['a']", "Infinity is no JSON number."),
     (float("-inf"), "$", "-Infinity is no JSON number."),
+    ([decimal.Decimal(1), {"a": decimal.Decimal("NaN")}], "$[1]['a']", "NaN is no JSON number."),
+    ([0.5, decimal.Decimal("-Infinity")], "$[1]", "-Infinity is no JSON number."),
+    (decimal.Decimal("sNaN"), "$", "sNaN is no JSON number."),
+    ([0.5, [1.5, float("nan")]], "$[1][1]", "NaN is no JSON number."),
     ({float("nan"): 0}, "$", "The key NaN is no JSON number."),
     ([{1: "a", "1": "b"}], "$[0]", "The keys 1 and '1' have one name in JSON, \"1\"."),
     ({"true": 0, True: 1}, "$", "The keys 'true' and True have one name in JSON, \"true\"."),
@@ -185,23 +193,60 @@ class Objects(unittest.TestCase):
         twice = [1]
         self.assertEqual(jp.values("$", {1: twice, "a": [twice, twice]}), [{"1": [1], "a": [[1], [1]]}])
 
-    @unittest.skipUnless(hasattr(sys, "set_int_max_str_digits"), "this Python writes any number of digits")
     def test_numbers_of_more_digits_than_python_writes(self):
-        beyond_float = rows.sentences("Document")["BeyondFloat"]
-        for document, path, sentence in [
-            ([0, 10**5000], "$[1]", beyond_float),
-            ({"a": -(10**5000)}, "$['a']", beyond_float),
-            ([{10**5000: 1}], "$[0]", "A key has more digits than Python writes."),
+        for exponent in (4299, 5000):
+            self.assertEqual(jp.find("$", [0, -(10**exponent)])[0].text, f"[0,-1e+{exponent}]")
+            self.assertEqual(jp.find("$", {10**exponent: None})[0].text, f'{{"1{exponent * "0"}":null}}')
+            for number, numbers, kind, path, reason in [
+                (10**exponent, "whole", "NotJson", None, "BeyondFloat"),
+                (10**exponent + 1, "decimal", "NumberRange", "$[1]", "BeyondDecimal"),
+            ]:
+                with self.assertRaises(jp.DocumentError) as caught:
+                    jp.find("$", [0, number], numbers=numbers)
+                fault = caught.exception
+                self.assertEqual((fault.kind, fault.path, fault.reason, fault.column), (kind, path, reason, 4))
+                if reason == "BeyondFloat":
+                    self.assertEqual(fault.sentence, rows.sentences("Document")[reason])
+
+    def test_numbers_are_written_exactly(self):
+        class Price(float):
+            def __repr__(self):
+                return "a price"
+
+        class Exact(decimal.Decimal):
+            def __str__(self):
+                return "an exact one"
+
+        for number, text in [
+            (8.95, "8.95"), (0.1, "0.1"), (0.1 + 0.2, "0.30000000000000004"), (1e16, "1e+16"), (1e-7, "1e-07"),
+            (-0.0, "-0.0"), (5e-324, "5e-324"), (1.7976931348623157e308, "1.7976931348623157e+308"),
+            (Price(2.5), "2.5"),
+            (decimal.Decimal("8.950"), "8.950"), (decimal.Decimal("1E+400"), "1E+400"),
+            (decimal.Decimal("0E-8"), "0E-8"), (decimal.Decimal("-0.1"), "-0.1"), (Exact("7.50"), "7.50"),
+            (decimal.Decimal(10) ** 20, "100000000000000000000"),
+            (decimal.Decimal("1234567890123456789.0123456789012345678"), "1234567890123456789.0123456789012345678"),
         ]:
-            with self.assertRaises(jp.Error) as caught:
-                jp.find("$", document)
-            fault = caught.exception
-            self.assertEqual((type(fault), fault.kind, fault.path), (jp.DocumentError, "NotJson", path))
-            self.assertEqual(fault.sentence, sentence)
-        for number in (10**4299, 10**5000):
-            with self.assertRaises(jp.DocumentError) as caught:
-                jp.find("$", [number])
-            self.assertEqual(caught.exception.reason, "BeyondFloat")
+            with self.subTest(text=text):
+                self.assertEqual(jp.Document(number).text, text.encode())
+                self.assertEqual(jp.Document([None, {"a": (number,)}]).text, f'[null,{{"a":[{text}]}}]'.encode())
+                self.assertEqual(jp.values("$.a", {"a": number}, decimals=decimal.Decimal), [decimal.Decimal(text)])
+        with self.assertRaises(jp.DocumentError) as caught:
+            jp.find("$", [0, decimal.Decimal("9" * 39)])
+        self.assertEqual((caught.exception.kind, caught.exception.path), ("NumberRange", "$[1]"))
+
+    def test_decimals_and_default(self):
+        one = decimal.Decimal("1.50")
+        for default, text in [
+            (None, '{"a":[1.50,true]}'), (str, '{"a":["1.50",true]}'), (float, '{"a":[1.5,true]}'),
+            (lambda it: it, '{"a":[1.50,true]}'),
+        ]:
+            self.assertEqual(jp.Document({"a": [one, True]}, default=default).text, text.encode())
+        self.assertEqual(jp.Document([{1}, one], default=lambda it: it if it is one else list(it)).text, b"[[1],1.50]")
+        deep = one
+        for _ in range(127):
+            deep = [deep]
+        self.assertEqual(jp.values("$" + "[0]" * 127, deep), [1.5])
+        self.assert_too_deep([deep])
 
     def test_halves_of_surrogate_pairs_are_printed(self):
         for call in (lambda: jp.check("$.\ud800"), lambda: jp.find("$", {"\udfff": float("nan")}),
@@ -235,6 +280,8 @@ class ByOrjson(unittest.TestCase):
             ([None, {"null": None}], '[null,{"null":null}]'),
             ((1, ()), "[1,[]]"),
             ({"\uffff": 1, "\U0001f600": 2}, '{"\uffff":1,"\U0001f600":2}'),
+            ([8.95, -0.0, 1e15, 1e-4, 0.1 + 0.2], "[8.95,-0.0,1000000000000000.0,0.0001,0.30000000000000004]"),
+            ({"a": 9999999999999998.0}, '{"a":9999999999999998.0}'),
         ]:
             self.assertEqual(_orjson.bytes_by_orjson(document), text.encode())
             self.assertEqual(jp.Document(document).text, text.encode())
@@ -242,6 +289,13 @@ class ByOrjson(unittest.TestCase):
             by_json = self.text_by_json(document)
             self.assertEqual(_orjson.bytes_by_orjson(document), by_json)
             self.assertEqual(jp.values("$", document), [document])
+        chances = random.Random(8259)
+        floats = [struct.unpack("d", struct.pack("Q", chances.getrandbits(64)))[0] for _ in range(20_000)]
+        floats += [chances.choice([1, -1]) * 10 ** chances.uniform(-6, 18) for _ in range(20_000)]
+        floats += [round(chances.uniform(0, 1000), chances.randrange(1, 5)) for _ in range(20_000)]
+        for number in filter(math.isfinite, floats):
+            if _orjson.bytes_by_orjson([number]) is not None:
+                self.assertEqual(_orjson.bytes_by_orjson([number]), f"[{number!r}]".encode())
 
     def text_by_json(self, document):
         with mock.patch.object(_orjson, "orjson", None):
@@ -254,7 +308,8 @@ class ByOrjson(unittest.TestCase):
         inside.append((inside,))
         for document in (
             [float("nan")], [float("inf"), None], [2**64], {1: 2}, ["\ud800"], {"\udfff": 0}, nested, inside,
-            [Number.ONE], collections.OrderedDict(a=1), *OF_ORJSON, [{1}], [b"a"], [1.5],
+            [Number.ONE], collections.OrderedDict(a=1), *OF_ORJSON, [{1}], [b"a"], [1e16], [1e-5],
+            [decimal.Decimal(1)],
         ):
             self.assertIsNone(_orjson.bytes_by_orjson(document), type(document))
 
@@ -297,6 +352,31 @@ class Arguments(unittest.TestCase):
                     with self.assertRaises(TypeError) as caught:
                         call(*words)
                     self.assertEqual(str(caught.exception), sentence)
+
+    def test_numbers_and_decimals(self):
+        query, kept = jp.compile("$"), jp.Document("[]")
+        calls = (jp.find, jp.find_one, jp.finditer, jp.paths, jp.values, jp.exists)
+        many = [lambda numbers, call=call, asked=asked: call(asked, "[]", numbers=numbers)
+                for call in calls for asked in ("$", query)]
+        many += [lambda numbers, call=call: call("$", numbers=numbers)
+                 for call in (jp.compile, jp.parse, jp.Query, jp.canonical, jp.check)]
+        many += [lambda numbers: jp.Document("[]", numbers=numbers),
+                 lambda numbers: jp.find_many([], "[]", numbers=numbers)]
+        for call in many:
+            with self.assertRaisesRegex(ValueError, "^numbers is 'decimal' or 'whole', and not 'float'$"):
+                call("float")
+            for wrong in (float, None, []):
+                name = type(wrong).__name__
+                with self.assertRaisesRegex(TypeError, f"^numbers is 'decimal' or 'whole', and no {name}$"):
+                    call(wrong)
+        sentence = "^decimals is a function of a number's text, as json.loads has parse_float, and no str$"
+        for name in ("find", "find_one", "finditer", "values"):
+            for of, asked in [(jp, ("$", "[]")), (query, ("[]",)), (kept, ("$",))]:
+                with self.assertRaisesRegex(TypeError, sentence):
+                    getattr(of, name)(*asked, decimals="float")
+        for call in (lambda: jp.find_many(["$"], "[]", decimals="float"), lambda: jp.Match("$", "1", "float")):
+            with self.assertRaisesRegex(TypeError, sentence):
+                call()
 
     def test_a_document_before_the_query(self):
         for document in ("$.a", b"$.a"):

@@ -1,4 +1,5 @@
 """The rows of bindings/rows.jsonl, and seeded programs, by the calls of Python."""
+import decimal
 import json
 import os
 import subprocess
@@ -9,12 +10,20 @@ from typing import NamedTuple
 import jsonpath_jp as jp
 
 BINDINGS = os.path.dirname(os.path.dirname(os.path.dirname(os.path.realpath(__file__))))
-sys.path.insert(0, BINDINGS)
+sys.path[:0] = [BINDINGS, os.path.join(os.path.dirname(BINDINGS), "hostile")]
 
+import plain  # noqa: E402
 import rows  # noqa: E402
 
 # What the row asks; a query's error does not tell the name of its reason.
 ASKED = {"from", "profile", "query", "document", "bytes", "not"}
+# Each profile by the arguments of calls.
+PROFILES = {
+    "Standard": {"extended": False, "numbers": "whole"},
+    "Extended": {"extended": True, "numbers": "whole"},
+    "Decimal": {},
+    "ExtendedDecimal": {"extended": True},
+}
 
 
 class Told(NamedTuple):
@@ -22,41 +31,55 @@ class Told(NamedTuple):
     text: str
 
 
-def by_kept_query(query, document, extended):
-    return jp.compile(query, extended).find(document)
+def by_kept_query(query, document, profile):
+    return jp.compile(query, **profile).find(document)
 
 
-def by_kept_document(query, document, extended):
+def by_kept_document(query, document, profile):
     # A query that is refused is told of first.
-    jp.compile(query, extended)
-    return list(jp.Document(document).finditer(query, extended))
+    jp.compile(query, **profile)
+    kept = jp.Document(document, numbers=profile.get("numbers", "decimal"))
+    return list(kept.finditer(query, profile.get("extended", False)))
 
 
-def by_many(query, document, extended):
-    (answer,) = jp.find_many([query], document, extended)
+def by_find(query, document, profile):
+    return jp.find(query, document, **profile)
+
+
+def by_many(query, document, profile):
+    (answer,) = jp.find_many([query], document, **profile)
     if isinstance(answer, jp.Error):
         raise answer
     return answer
 
 
-def by_canonical(query, _, extended):
-    return jp.canonical(query, extended)
+def by_canonical(query, _, profile):
+    return jp.canonical(query, **profile)
 
 
-def by_check(query, _, extended):
-    jp.check(query, extended)
+def by_check(query, _, profile):
+    jp.check(query, **profile)
     return []
 
 
-def by_text(query, document, extended):
-    return jp.find(query, document.decode(), extended)
+def by_text(query, document, profile):
+    return jp.find(query, document.decode(), **profile)
 
 
-def by_paths_and_values(query, document, extended):
+def by_paths_and_values(query, document, profile):
     """The values are told as compact texts."""
-    values = jp.values(query, document, extended)
-    texts = [json.dumps(it, ensure_ascii=False, separators=(",", ":"), sort_keys=True) for it in values]
-    return list(map(Told, jp.paths(query, document, extended), texts))
+    values = jp.values(query, document, decimals=decimal.Decimal, **profile)
+    return list(map(Told, jp.paths(query, document, **profile), map(plain.value_text, map(with_decimals, values))))
+
+
+def with_decimals(value):
+    """The value with a decimal in place of each number."""
+    if isinstance(value, list):
+        return list(map(with_decimals, value))
+    if isinstance(value, dict):
+        return {name: with_decimals(part) for name, part in value.items()}
+    is_whole = isinstance(value, int) and not isinstance(value, bool)
+    return decimal.Decimal(value) if is_whole else value
 
 
 def told(find, *words):
@@ -92,7 +115,7 @@ class Rows(unittest.TestCase):
     def assert_row(self, row):
         """Each way to ask gives what the row says."""
         document = rows.document_of(row)
-        ways = [] if document is None else [jp.find, by_kept_query, by_kept_document, by_many, by_paths_and_values]
+        ways = [] if document is None else [by_find, by_kept_query, by_kept_document, by_many, by_paths_and_values]
         if "document" in row:
             ways.append(by_text)
         if document is None or row.get("refused") == "Query":
@@ -101,7 +124,7 @@ class Rows(unittest.TestCase):
             ways.append(by_check)
         for find in ways:
             with self.subTest(row=row, by=find.__name__):
-                given = told(find, row["query"], document, row["profile"] == "Extended")
+                given = told(find, row["query"], document, PROFILES[row["profile"]])
                 wanted = expected(row)
                 self.assertEqual({name: given.get(name) for name in wanted}, wanted)
 
@@ -112,19 +135,21 @@ class Programs(unittest.TestCase):
         said = subprocess.run(words, capture_output=True, text=True, check=True).stdout
         count = 0
         for row in map(json.loads, said.splitlines()[1:]):
-            asked = row["query"], row["document"], row["profile"] == "Extended"
-            with self.subTest(row=row):
-                wanted = told(jp.find, *asked)
-                self.assertEqual(told(by_kept_query, *asked), wanted)
-                self.assertEqual(told(by_kept_document, *asked), wanted)
-                if "paths" in wanted:
-                    self.assert_again(jp.compile(row["query"], asked[2]), row["document"], wanted)
-                    count += 1
-        self.assertGreater(count, 1000)
+            for numbers in ("whole", "decimal"):
+                profile = {**PROFILES[row["profile"]], "numbers": numbers}
+                asked = row["query"], row["document"], profile
+                with self.subTest(row=row, numbers=numbers):
+                    wanted = told(by_find, *asked)
+                    self.assertEqual(told(by_kept_query, *asked), wanted)
+                    self.assertEqual(told(by_kept_document, *asked), wanted)
+                    if "paths" in wanted:
+                        self.assert_again(jp.compile(row["query"], **profile), row["document"], wanted)
+                        count += 1
+        self.assertGreater(count, 2000)
 
     def assert_again(self, query, document, wanted):
         """What a kept query answers does not go by what it was asked before."""
-        for other in ("[]", '{"a":[1,{"b":"é"}],"b":{"a":2}}', "[1,", "[0.5]"):
+        for other in ("[]", '{"a":[1,{"b":"é"}],"b":{"a":2}}', "[1,", "[0.5]", f"[1{'0' * 38}1]"):
             told(query.find, other)
             self.assertEqual(told(query.find, document), wanted)
         first = query.find_one(document)
