@@ -1,13 +1,21 @@
 package jsonpath.jp;
 
 import com.fasterxml.jackson.core.JsonProcessingException;
+import com.fasterxml.jackson.core.json.JsonWriteFeature;
+import com.fasterxml.jackson.databind.DeserializationFeature;
 import com.fasterxml.jackson.databind.JsonNode;
 import com.fasterxml.jackson.databind.json.JsonMapper;
 import java.util.List;
 
-/** Values and documents as Jackson has them. Whole numbers stay exact. It asks for Jackson on the class path. */
+/**
+ * Values and documents as Jackson has them. Numbers stay exact: one with a fraction or an exponent is a
+ * {@link java.math.BigDecimal}. It asks for Jackson on the class path.
+ */
 public final class JacksonValues {
-    private static final JsonMapper MAPPER = new JsonMapper();
+    private static final JsonMapper MAPPER = JsonMapper.builder()
+            .enable(DeserializationFeature.USE_BIG_DECIMAL_FOR_FLOATS)
+            .disable(JsonWriteFeature.WRITE_NAN_AS_STRINGS)
+            .build();
 
     private JacksonValues() {}
 
@@ -36,7 +44,8 @@ public final class JacksonValues {
     }
 
     /**
-     * A value as a document, which a query can be asked of.
+     * A value as a document, which a query can be asked of. NaN and infinities are written as such, and so are refused
+     * at their place.
      *
      * @param value the value
      * @return its text in UTF-8
