@@ -57,6 +57,8 @@ final class Jackson {
                 List.of("8.95", "-0.1", "1e-7", "1e+400", "0.10000000000000000555",
                         "12345678901234567890.12345678901234567"),
                 Check.values(Query.compile("$[*]").find(JacksonValues.text(again))));
+        JsonNode inside = JacksonValues.of(Check.find("$", "[{\"a\":-1e400}]").get(0)).get(0).get("a");
+        Check.equal(0, new BigDecimal("-1e400").compareTo(inside.decimalValue()));
         JsonNode whole = JacksonValues.of(Check.find("$[0]", "[1e2]").get(0));
         Check.that(whole.isInt() && whole.intValue() == 100, "1e2 is 100");
     }

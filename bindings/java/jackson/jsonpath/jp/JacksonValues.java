@@ -1,10 +1,14 @@
 package jsonpath.jp;
 
+import com.fasterxml.jackson.core.JsonParser;
 import com.fasterxml.jackson.core.JsonProcessingException;
+import com.fasterxml.jackson.core.JsonToken;
 import com.fasterxml.jackson.core.json.JsonWriteFeature;
+import com.fasterxml.jackson.core.util.JsonParserDelegate;
 import com.fasterxml.jackson.databind.DeserializationFeature;
 import com.fasterxml.jackson.databind.JsonNode;
 import com.fasterxml.jackson.databind.json.JsonMapper;
+import java.io.IOException;
 import java.util.List;
 
 /**
@@ -19,6 +23,23 @@ public final class JacksonValues {
 
     private JacksonValues() {}
 
+    /** A parser that makes a decimal of each fraction: Jackson's own takes one beyond all doubles for an infinity. */
+    private static final class Exact extends JsonParserDelegate {
+        Exact(JsonParser parser) {
+            super(parser);
+        }
+
+        @Override
+        public NumberType getNumberType() throws IOException {
+            return currentToken() == JsonToken.VALUE_NUMBER_FLOAT ? NumberType.BIG_DECIMAL : super.getNumberType();
+        }
+
+        @Override
+        public boolean isNaN() {
+            return false;
+        }
+    }
+
     /**
      * The value of a node.
      *
@@ -26,9 +47,9 @@ public final class JacksonValues {
      * @return its value
      */
     public static JsonNode of(Node node) {
-        try {
-            return MAPPER.readTree(node.value());
-        } catch (JsonProcessingException fault) {
+        try (JsonParser parser = new Exact(MAPPER.createParser(node.value()))) {
+            return MAPPER.readTree(parser);
+        } catch (IOException fault) {
             throw new IllegalArgumentException("no JSON: " + node.value(), fault);
         }
     }
