@@ -63,7 +63,7 @@ final class Jackson {
         Check.that(whole.isInt() && whole.intValue() == 100, "1e2 is 100");
     }
 
-    /** What is no number of JSON is refused where it stands: behind a name with a quotation mark at either end, which are five bytes. */
+    /** What is no number of JSON is refused where it stands: behind the five bytes of a brace, a name and a colon. */
     public static void numbersThatAreNoJson() {
         for (double none : new double[] {Double.NaN, Double.POSITIVE_INFINITY, Double.NEGATIVE_INFINITY}) {
             byte[] text = JacksonValues.text(JsonNodeFactory.instance.objectNode().put("a", none));
