@@ -14,8 +14,8 @@ type Source interface {
 	text() []byte
 	// own gives the same, which no one writes when the call has returned.
 	own() Source
-	// document gives the same as a document, and whether it was made for that.
-	document() (*Document, bool, error)
+	// document gives the same as a document, which is read with these numbers where it is made for that, and whether it is.
+	document(numbers Numbers) (*Document, bool, error)
 }
 
 // A Text is the bytes of a JSON text. They may not be written while a call reads them.
@@ -24,6 +24,7 @@ type Text []byte
 // Find gives the nodes that the query selects, in the order of RFC 9535; one that is selected twice stands there twice.
 //
 // Where a [Text] is no document the error is a [*DocumentError], and where the query goes beyond a limit a [*LimitError].
+// Where a [*Document] was read with other numbers than the query has it is [ErrOtherNumbers].
 func (q *Query) Find(source Source) ([]Node, error) {
 	return q.FindContext(context.Background(), source)
 }
@@ -100,7 +101,7 @@ func (q *Query) once(ctx context.Context, source Source, form uint32, count coun
 	text := source.text()
 	answer := asker.ask(document, text, form, count, limit)
 	q.kept.giveBack(asker, larger(len(text), len(answer.text)))
-	if err := faultOf(answer, q.kept.text, q.kept.extended, text, limit); err != nil {
+	if err := faultOf(answer, q.kept.text, q.kept.options, text, limit); err != nil {
 		return nil, err
 	}
 	return answer.text, nil
@@ -120,8 +121,8 @@ func (t Text) own() Source {
 	return append(Text(nil), t...)
 }
 
-func (t Text) document() (*Document, bool, error) {
-	document, err := NewDocument(t)
+func (t Text) document(numbers Numbers) (*Document, bool, error) {
+	document, err := NewDocumentWith(t, numbers)
 	return document, true, err
 }
 

@@ -184,17 +184,29 @@ func TestWhatARefusedQueryTells(t *testing.T) {
 
 func TestALongPath(t *testing.T) {
 	name := strings.Repeat("a", 5000)
-	_, err := jp.MustCompile("$").Find(jp.Text(`{"` + name + `":1.5}`))
-	same(t, "path", err.(*jp.DocumentError).Path, "$['"+name+"']")
+	for number, options := range map[string]jp.Options{"1.5": {Numbers: jp.Whole}, tooMuch: {}} {
+		query, _ := jp.CompileWith("$", options)
+		_, err := query.Find(jp.Text(`{"` + name + `":` + number + `}`))
+		same(t, "path", err.(*jp.DocumentError).Path, "$['"+name+"']")
+	}
 }
 
 func TestWhatARefusedDocumentTells(t *testing.T) {
-	for text, told := range map[string]string{
-		"{\"ä\":[1,\n2,]}": "document refused: NotJson: line 2, column 3: ",
-		"[2.5]":            "document refused: NotWhole at $[0]: line 1, column 2: ",
+	for _, row := range []struct {
+		text    string
+		numbers jp.Numbers
+		told    string
+	}{
+		{"{\"ä\":[1,\n2,]}", jp.Decimal, "document refused: NotJson: line 2, column 3: "},
+		{"{\"ä\":[1,\n2,]}", jp.Whole, "document refused: NotJson: line 2, column 3: "},
+		{"[2.5]", jp.Whole, "document refused: NotWhole at $[0]: line 1, column 2: "},
+		{"[\n 0.5, " + tooMuch + "]", jp.Decimal, "document refused: NumberRange at $[1]: line 2, column 7: "},
 	} {
-		_, err := jp.MustCompile("$..b").Find(jp.Text(text))
-		same(t, "text", err.Error(), told+err.(*jp.DocumentError).Sentence)
+		query, _ := jp.CompileWith("$..b", jp.Options{Numbers: row.numbers})
+		_, err := query.Find(jp.Text(row.text))
+		same(t, "text", err.Error(), row.told+err.(*jp.DocumentError).Sentence)
+		_, kept := jp.NewDocumentWith([]byte(row.text), row.numbers)
+		same(t, "kept", kept, err)
 	}
 }
 

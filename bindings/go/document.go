@@ -8,25 +8,38 @@ import (
 )
 
 // A Document is read once, to be asked many queries. It has a copy of its text, in memory of C that Go does not count:
-// so [Document.Close] it when it is no longer needed. Calls over it take turns, from whichever goroutines they come.
+// so [Document.Close] it when it is no longer needed. Calls over it take turns, from whichever goroutines they come. A
+// query that has other numbers than the document was read with is not asked of it: the error is [ErrOtherNumbers].
 type Document struct {
+	numbers Numbers
 	// The handle that keeps the document, unless a call uses it.
 	turn    chan *handle
 	closed  chan struct{}
 	closing sync.Once
 }
 
-// NewDocument reads a JSON text. Where the bytes are no document the error is a [*DocumentError].
+// NewDocument reads a JSON text, whose numbers are decimals. Where the bytes are no document the error is a
+// [*DocumentError].
 func NewDocument(text []byte) (*Document, error) {
-	kept := newHandle()
-	answer := kept.keepDocument(text)
-	if err := faultOf(answer, "", false, text, Limit{}); err != nil {
+	return NewDocumentWith(text, Decimal)
+}
+
+// NewDocumentWith reads a JSON text with these numbers, to be asked queries that have the same.
+func NewDocumentWith(text []byte, numbers Numbers) (*Document, error) {
+	kept, options := newHandle(), Options{Numbers: numbers}
+	answer := kept.keepDocument(text, options)
+	if err := faultOf(answer, "", options, text, Limit{}); err != nil {
 		kept.free()
 		return nil, err
 	}
-	document := &Document{turn: make(chan *handle, 1), closed: make(chan struct{})}
+	document := &Document{numbers: numbers, turn: make(chan *handle, 1), closed: make(chan struct{})}
 	document.turn <- kept
 	return document, nil
+}
+
+// Numbers tells which numbers the document was read with.
+func (d *Document) Numbers() Numbers {
+	return d.numbers
 }
 
 // Close frees what the document keeps, at once and not when nothing refers to it any more. From then on it answers
@@ -87,6 +100,6 @@ func (d *Document) own() Source {
 	return d
 }
 
-func (d *Document) document() (*Document, bool, error) {
+func (d *Document) document(Numbers) (*Document, bool, error) {
 	return d, false, nil
 }

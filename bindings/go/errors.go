@@ -18,6 +18,8 @@ var (
 	ErrTooManyNodes = errors.New("too many nodes")
 	// ErrTooManyBytes is that of a query whose answer has more bytes than its limit.
 	ErrTooManyBytes = errors.New("too many bytes")
+	// ErrOtherNumbers is that of a query which has other numbers than the document was read with.
+	ErrOtherNumbers = errors.New("other numbers")
 	// ErrClosed is that of a query or a document which was closed, or was never made.
 	ErrClosed = errors.New("jp: the query or the document is closed")
 	// ErrNoMemory is that of a call for which there is too little memory.
@@ -40,14 +42,15 @@ type QueryError struct {
 	// Suggestion is a query that is accepted, where it is plain what was meant, or else empty.
 	Suggestion string
 
-	extended bool
+	options Options
 }
 
 // A DocumentError is a document that is refused.
 type DocumentError struct {
 	// Kind is what is wrong with it.
 	Kind DocumentKind
-	// Path is, of DocumentNotWhole, the normalized path of the first number that is not a whole one of 64 bits.
+	// Path is, of DocumentNotWhole, the normalized path of the first number that is not a whole one of 64 bits, and of
+	// DocumentNumberRange that of the first one that is too much for a decimal.
 	Path string
 	// Offset is the byte through which no JSON text goes on, or where what is wrong begins, from 0; the document's length
 	// where it ends too soon.
@@ -89,7 +92,7 @@ func (e *QueryError) Error() string {
 // Explanation tells all for a terminal, in lines: the line of the query that holds the place, a caret below the place,
 // the sentence, and the suggestion.
 func (e *QueryError) Explanation() string {
-	return explain(e.Query, e.extended, explanation)
+	return explain(e.Query, e.options, explanation)
 }
 
 // Error tells the kind, the path, the line, the column, the sentence and the suggestion.
@@ -124,20 +127,22 @@ func (e *LimitError) Unwrap() error {
 }
 
 // faultOf gives the error that what a call told stands for, if there is one.
-func faultOf(it told, query string, extended bool, document []byte, limit Limit) error {
+func faultOf(it told, query string, options Options, document []byte, limit Limit) error {
 	switch it.status {
 	case done:
 		return nil
 	case queryRefused:
-		return newQueryError(it, query, extended)
+		return newQueryError(it, query, options)
 	case documentRefused:
-		return newDocumentError(it, document)
+		return newDocumentError(it, document, options)
 	case stepsUsedUp:
 		return &LimitError{ErrStepsUsedUp, limit.Steps, query}
 	case tooManyNodes:
 		return &LimitError{ErrTooManyNodes, limit.Nodes, query}
 	case tooManyBytes:
 		return &LimitError{ErrTooManyBytes, limit.Bytes, query}
+	case otherNumbers:
+		return newOtherNumbers(options.Numbers.other())
 	case noMemory:
 		return ErrNoMemory
 	case noStack:
@@ -146,20 +151,27 @@ func faultOf(it told, query string, extended bool, document []byte, limit Limit)
 	panic(fmt.Sprintf("jp: the status %d of no answer", it.status))
 }
 
-func newQueryError(it told, query string, extended bool) *QueryError {
+func newQueryError(it told, query string, options Options) *QueryError {
 	return &QueryError{
 		Kind:       QueryKind(kindName(queryRefused, it.kind)),
 		Place:      it.place,
 		Query:      query,
-		Sentence:   explain(query, extended, sentence),
-		Suggestion: explain(query, extended, suggestion),
-		extended:   extended,
+		Sentence:   explain(query, options, sentence),
+		Suggestion: explain(query, options, suggestion),
+		options:    options,
 	}
 }
 
-func newDocumentError(it told, document []byte) *DocumentError {
-	at, reason := explainDocument(document, documentReason)
-	_, why := explainDocument(document, documentSentence)
+// newOtherNumbers gives the error of a document that was read with these numbers, and of a query that has others.
+func newOtherNumbers(read Numbers) error {
+	const what = "%w: the document was read with %v, which the query has not: read one of them with the numbers of the " +
+		"other, by NewDocumentWith or CompileWith"
+	return fmt.Errorf(what, ErrOtherNumbers, read)
+}
+
+func newDocumentError(it told, document []byte, options Options) *DocumentError {
+	at, reason := explainDocument(document, options, documentReason)
+	_, why := explainDocument(document, options, documentSentence)
 	suggestion := ""
 	if reason == "AfterValue" && isLine(document[:at.offset]) {
 		suggestion = byLines

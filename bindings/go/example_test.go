@@ -18,7 +18,7 @@ func Example() {
 		fmt.Println(err)
 		return
 	}
-	nodes, err := query.Find(jp.Text(`{"book":[{"title":"A","price":9},{"title":"B","price":12}]}`))
+	nodes, err := query.Find(jp.Text(`{"book":[{"title":"Moby Dick","price":8.99},{"title":"Sword of Honour","price":12.99}]}`))
 	if err != nil {
 		fmt.Println(err)
 		return
@@ -26,7 +26,7 @@ func Example() {
 	for _, node := range nodes {
 		fmt.Printf("%s %s\n", node.Path, node.Value)
 	}
-	// Output: $['book'][0]['title'] "A"
+	// Output: $['book'][0]['title'] "Moby Dick"
 }
 
 func ExampleDocument() {
@@ -43,6 +43,20 @@ func ExampleDocument() {
 	// Output:
 	// [$['a'][1]	2] <nil>
 	// [$['a']	[1,2] $['a'][0]	1 $['a'][1]	2] <nil>
+}
+
+func ExampleCompileWith() {
+	query, err := jp.CompileWith("$[?@.price < 10]", jp.Options{Numbers: jp.Whole})
+	if err != nil {
+		fmt.Println(err)
+		return
+	}
+	fmt.Println(query.Find(jp.Text(`[{"price":9},{"price":12}]`)))
+	_, err = query.Find(jp.Text(`[{"price":8.99}]`))
+	fmt.Println(err.(*jp.DocumentError).Kind, err.(*jp.DocumentError).Path)
+	// Output:
+	// [$[0]	{"price":9}] <nil>
+	// NotWhole $[0]['price']
 }
 
 func ExampleNode_Decode() {

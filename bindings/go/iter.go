@@ -34,7 +34,7 @@ type Iter struct {
 }
 
 func newIter(ctx context.Context, query *Query, source Source) *Iter {
-	document, isOwn, err := source.document()
+	document, isOwn, err := source.document(query.Numbers())
 	it := &Iter{ctx: ctx, query: query, document: document, isOwn: isOwn, cursor: new(cursor), err: err}
 	if err != nil {
 		it.isLast, it.isOwn = true, false
@@ -115,5 +115,5 @@ func (it *Iter) once(limit Limit) ([]byte, error) {
 	}
 	answer := asker.nextPage(document, it.cursor, limit.Steps)
 	kept.giveBack(asker, len(answer.text))
-	return answer.text, faultOf(answer, kept.text, kept.extended, nil, limit)
+	return answer.text, faultOf(answer, kept.text, kept.options, nil, limit)
 }

@@ -49,7 +49,7 @@ func leavesNothing(t *testing.T, what string, count int, call func()) {
 
 func TestCallsLeaveNothingBehind(t *testing.T) {
 	query, few := jp.MustCompile("$.a[*]"), jp.MustCompile("$.a[*]").WithLimit(jp.Limit{Steps: 1})
-	text := jp.Text(`{"a":[7` + strings.Repeat(",8", 1000) + `]}`)
+	text := jp.Text(`{"a":[7` + strings.Repeat(",8.95", 1000) + `]}`)
 	document, _ := jp.NewDocument(text)
 	defer document.Close()
 	leavesNothing(t, "a document that is kept", 100_000, func() {

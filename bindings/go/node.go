@@ -16,8 +16,9 @@ var pointerEscapes = strings.NewReplacer("~", "~0", "/", "~1")
 type Node struct {
 	// Path is the normalized path (RFC 9535, section 2.7), as $['a'][1].
 	Path string `json:"path"`
-	// Value is the value as a compact JSON text, with the members of objects sorted by name. The nodes of one answer
-	// have their texts in one piece of memory.
+	// Value is the value as a compact JSON text, with the members of objects sorted by name. Numbers have all their
+	// digits, in one spelling for each number (RFC 8785, section 3.2.2.3): 8.950 is 8.95, 1.0 is 1, and 1e400 is 1e+400.
+	// The nodes of one answer have their texts in one piece of memory.
 	Value json.RawMessage `json:"value"`
 }
 

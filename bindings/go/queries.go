@@ -11,6 +11,8 @@ type Queries struct {
 	Texts []string
 	// Extended lets them call distinct.
 	Extended bool
+	// Numbers are those of the queries and of the document.
+	Numbers Numbers
 	// Limit is that of each.
 	Limit Limit
 }
@@ -27,10 +29,11 @@ func (q Queries) Find(text Text) []Answer {
 	answers := make([]Answer, len(q.Texts))
 	// Why the document is refused is asked for once, since that reads it again.
 	var refusal error
-	for at, answer := range evalMany(q.Texts, q.Extended, text, q.Limit) {
+	options := Options{Extended: q.Extended, Numbers: q.Numbers}
+	for at, answer := range evalMany(q.Texts, options, text, q.Limit) {
 		err := refusal
 		if answer.status != documentRefused || refusal == nil {
-			err = faultOf(answer, q.Texts[at], q.Extended, text, q.Limit)
+			err = faultOf(answer, q.Texts[at], options, text, q.Limit)
 		}
 		if err != nil {
 			answers[at].Err = err

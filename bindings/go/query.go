@@ -23,14 +23,15 @@ type Limit struct {
 	Bytes uint64
 }
 
-// Compile reads a query with the functions of RFC 9535. Where it is refused the error is a [*QueryError].
+// Compile reads a query with the functions of RFC 9535, and with decimals. Where it is refused the error is a
+// [*QueryError].
 func Compile(text string) (*Query, error) {
-	return compile(text, false)
+	return CompileWith(text, Options{})
 }
 
 // CompileExtended reads a query that may also call distinct, which gives each node of a nodelist once.
 func CompileExtended(text string) (*Query, error) {
-	return compile(text, true)
+	return CompileWith(text, Options{Extended: true})
 }
 
 // MustCompile reads a query as [Compile] does, and panics where it is refused. It is for queries that stand in a program.
@@ -42,8 +43,9 @@ func MustCompile(text string) *Query {
 	return query
 }
 
-func compile(text string, extended bool) (*Query, error) {
-	kept := &keptQuery{text: text, extended: extended}
+// CompileWith reads a query with these options, as whole numbers: CompileWith(text, Options{Numbers: Whole}).
+func CompileWith(text string, options Options) (*Query, error) {
+	kept := &keptQuery{text: text, options: options}
 	handle, err := kept.take()
 	if err != nil {
 		return nil, err
@@ -64,7 +66,19 @@ func (q *Query) Limit() Limit {
 
 // Extended tells whether the query may call distinct.
 func (q *Query) Extended() bool {
-	return q.kept != nil && q.kept.extended
+	return q.options().Extended
+}
+
+// Numbers tells which numbers the query has.
+func (q *Query) Numbers() Numbers {
+	return q.options().Numbers
+}
+
+func (q *Query) options() Options {
+	if q.kept == nil {
+		return Options{}
+	}
+	return q.kept.options
 }
 
 // String gives the query as it was given.
@@ -80,8 +94,8 @@ func (q *Query) Canonical() (string, error) {
 	if q.kept == nil {
 		return "", ErrClosed
 	}
-	answer := canonical(q.String(), q.Extended())
-	if err := faultOf(answer, q.String(), q.Extended(), nil, q.limit); err != nil {
+	answer := canonical(q.String(), q.options())
+	if err := faultOf(answer, q.String(), q.options(), nil, q.limit); err != nil {
 		return "", err
 	}
 	return string(answer.text), nil
@@ -107,7 +121,7 @@ const (
 // A keptQuery is a query in as many handles as calls ask it at once.
 type keptQuery struct {
 	text     string
-	extended bool
+	options  Options
 	mutex    sync.Mutex
 	spare    []*handle
 	isAsked  bool
@@ -124,8 +138,8 @@ func (k *keptQuery) take() (*handle, error) {
 		return handle, err
 	}
 	handle = newHandle()
-	answer := handle.keepQuery(k.text, k.extended)
-	return handle, faultOf(answer, k.text, k.extended, nil, Limit{})
+	answer := handle.keepQuery(k.text, k.options)
+	return handle, faultOf(answer, k.text, k.options, nil, Limit{})
 }
 
 func (k *keptQuery) takeSpare() (*handle, error) {

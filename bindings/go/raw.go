@@ -21,6 +21,7 @@ const (
 	noStack         = C.JP_NO_STACK
 	tooManyNodes    = C.JP_TOO_MANY_NODES
 	tooManyBytes    = C.JP_TOO_MANY_BYTES
+	otherNumbers    = C.JP_OTHER_NUMBERS
 )
 
 // What is given of each node.
@@ -81,15 +82,15 @@ func (h *handle) free() {
 }
 
 // keepQuery keeps the query, where it is accepted.
-func (h *handle) keepQuery(text string, extended bool) told {
-	call := ofQuery(C.JP_GO_QUERY_NEW, []byte(text), extended)
+func (h *handle) keepQuery(text string, options Options) told {
+	call := ofQuery(C.JP_GO_QUERY_NEW, []byte(text), options)
 	call.handle = &h.kept
 	return lent(C.jp_go_make(call))
 }
 
-// keepDocument keeps the document, where it is one; else the text is the path of a number that is not whole.
-func (h *handle) keepDocument(document []byte) told {
-	call := ofDocument(C.JP_GO_DOCUMENT_NEW, document)
+// keepDocument keeps the document, where it is one; else the text is the path of a number that is none of the options.
+func (h *handle) keepDocument(document []byte, options Options) told {
+	call := ofDocument(C.JP_GO_DOCUMENT_NEW, document, options)
 	call.handle = &h.kept
 	answer, _ := written(call, firstRoom)
 	return answer
@@ -97,7 +98,7 @@ func (h *handle) keepDocument(document []byte) told {
 
 // ask asks the query that the handle keeps of the document that the other does, or of a JSON text where there is none.
 func (h *handle) ask(document *handle, text []byte, form uint32, count count, limit Limit) told {
-	call := ofDocument(C.JP_GO_ASK, text)
+	call := ofDocument(C.JP_GO_ASK, text, Options{})
 	if document != nil {
 		call = C.struct_jp_go_call{call: C.JP_GO_ASK_DOCUMENT, kept: &document.kept}
 	}
@@ -119,12 +120,12 @@ func (h *handle) nextPage(document *handle, cursor *cursor, steps uint64) told {
 }
 
 // evalMany asks many queries of a JSON text, each of which has its own answer.
-func evalMany(texts []string, extended bool, document []byte, limit Limit) []told {
+func evalMany(texts []string, options Options, document []byte, limit Limit) []told {
 	if len(texts) == 0 {
 		return nil
 	}
 	queries, questions := questionsOf(texts)
-	call := ofQuery(C.JP_GO_EVAL_MANY, queries, extended)
+	call := ofQuery(C.JP_GO_EVAL_MANY, queries, options)
 	call.document, call.document_length = start(document), C.size_t(len(document))
 	call.questions, call.questions_length = &questions[0], C.size_t(len(texts))
 	call.form, call.limit = formBoth, limit.inC()
@@ -150,22 +151,22 @@ func questionsOf(texts []string) ([]byte, []C.struct_jp_question) {
 }
 
 // canonical writes the canonical text of a query.
-func canonical(query string, extended bool) told {
-	answer, _ := written(ofQuery(C.JP_GO_CANON, []byte(query), extended), firstRoom)
+func canonical(query string, options Options) told {
+	answer, _ := written(ofQuery(C.JP_GO_CANON, []byte(query), options), firstRoom)
 	return answer
 }
 
 // explain tells a part of why a query is refused.
-func explain(query string, extended bool, part uint32) string {
-	call := ofQuery(C.JP_GO_EXPLAIN, []byte(query), extended)
+func explain(query string, options Options, part uint32) string {
+	call := ofQuery(C.JP_GO_EXPLAIN, []byte(query), options)
 	call.part = C.uint32_t(part)
 	answer, _ := written(call, firstRoom)
 	return string(answer.text)
 }
 
 // explainDocument tells where a document goes wrong, and a part of why.
-func explainDocument(document []byte, part uint32) (place, string) {
-	call := ofDocument(C.JP_GO_EXPLAIN_DOCUMENT, document)
+func explainDocument(document []byte, options Options, part uint32) (place, string) {
+	call := ofDocument(C.JP_GO_EXPLAIN_DOCUMENT, document, options)
 	call.part = C.uint32_t(part)
 	answer, at := written(call, firstRoom)
 	return at, string(answer.text)
@@ -194,19 +195,29 @@ func version() uint32 {
 	return uint32(C.jp_version())
 }
 
-func ofQuery(call C.uint32_t, query []byte, extended bool) C.struct_jp_go_call {
+func ofQuery(call C.uint32_t, query []byte, options Options) C.struct_jp_go_call {
 	made := C.struct_jp_go_call{call: call, query: start(query), query_length: C.size_t(len(query))}
-	if extended {
-		made.profile = C.JP_EXTENDED
-	}
+	made.profile = options.profile()
 	return made
 }
 
-// ofDocument is of a document of whole numbers.
-func ofDocument(call C.uint32_t, document []byte) C.struct_jp_go_call {
+// ofDocument is of a document whose numbers are those of the options.
+func ofDocument(call C.uint32_t, document []byte, options Options) C.struct_jp_go_call {
 	made := C.struct_jp_go_call{call: call, document: start(document), document_length: C.size_t(len(document))}
-	made.profile = C.JP_STANDARD
+	made.profile = options.profile()
 	return made
+}
+
+func (o Options) profile() C.uint32_t {
+	switch {
+	case o.Numbers == Whole && o.Extended:
+		return C.JP_EXTENDED
+	case o.Numbers == Whole:
+		return C.JP_STANDARD
+	case o.Extended:
+		return C.JP_EXTENDED_DECIMAL
+	}
+	return C.JP_DECIMAL
 }
 
 func (l Limit) inC() C.struct_jp_limit {

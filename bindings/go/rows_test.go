@@ -24,12 +24,23 @@ type row map[string]any
 // What is asked by a row; an error of a query does not tell the name of its reason.
 var asked = map[string]bool{"from": true, "profile": true, "query": true, "document": true, "bytes": true, "not": true}
 
+// The options of each profile.
+var profiles = map[string]jp.Options{
+	"Standard":        {Numbers: jp.Whole},
+	"Extended":        {Extended: true, Numbers: jp.Whole},
+	"Decimal":         {},
+	"ExtendedDecimal": {Extended: true},
+}
+
 func TestEachRow(t *testing.T) {
 	head, rows := readRows(t)
 	ran := 0
 	for _, row := range rows {
 		if not, _ := row["not"].(map[string]any); not["go"] != nil {
 			continue
+		}
+		if _, is := profiles[row["profile"].(string)]; !is {
+			t.Fatalf("no profile: %v", row)
 		}
 		for way, given := range answers(row) {
 			differs(t, row, way, given)
@@ -89,20 +100,16 @@ func documentOf(row row) (string, bool) {
 
 // answers gives what each way to ask gives, in the fields of a row.
 func answers(row row) map[string]map[string]any {
-	text := row["query"].(string)
-	compile := jp.Compile
-	if row["profile"] == "Extended" {
-		compile = jp.CompileExtended
-	}
+	text, options := row["query"].(string), profiles[row["profile"].(string)]
 	told := map[string]map[string]any{}
 	document, is := documentOf(row)
 	if is {
-		many := jp.Queries{Texts: []string{text, text}, Extended: row["profile"] == "Extended"}
+		many := jp.Queries{Texts: []string{text, text}, Extended: options.Extended, Numbers: options.Numbers}
 		for at, answer := range many.Find(jp.Text(document)) {
 			told[fmt.Sprint("many queries, at ", at)] = ofNodes(answer.Nodes, answer.Err)
 		}
 	}
-	query, err := compile(text)
+	query, err := jp.CompileWith(text, options)
 	switch {
 	case err != nil:
 		told["a query"] = ofFault(err)
@@ -127,7 +134,7 @@ func ofDocument(told map[string]map[string]any, query *jp.Query, document string
 	told["a context"] = ofNodes(query.FindContext(ctx, text))
 	told["one after another"] = ofEach(query.Iter(text))
 	told["the first of a text"] = ofFirst(query, text, told["a text"])
-	kept, err := jp.NewDocument([]byte(document))
+	kept, err := jp.NewDocumentWith([]byte(document), query.Numbers())
 	if err != nil {
 		told["a document"] = ofFault(err)
 		return

@@ -74,7 +74,7 @@ func deepest() string {
 	nested := strings.Repeat("[", 126) + strings.Repeat("]", 126)
 	var told strings.Builder
 	for _, row := range [][2]string{
-		{"$.a", `{"a":1}`}, {deep, nested}, {strings.Repeat("$[?@", 200), "[1]"}, {"$", nested}, {"$..*", nested},
+		{"$.a", `{"a":1}`}, {"$[?@<8.95]", "[8.94,1e-7,1e400]"}, {deep, nested}, {strings.Repeat("$[?@", 200), "[1]"}, {"$", nested}, {"$..*", nested},
 		{`$[?match(@,"` + strings.Repeat("(", 60) + "a" + strings.Repeat(")", 60) + `")]`, `["a"]`},
 	} {
 		many := jp.Queries{Texts: []string{row[0]}}.Find(jp.Text(row[1]))[0]

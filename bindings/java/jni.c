@@ -131,7 +131,7 @@ static void write_misreading(struct asked *asked, uint8_t *out, size_t room, str
                         report);
 }
 
-/* What is written is the path of a number that is not whole. */
+/* What is written is the path of a number that the profile has not. */
 static void write_path(struct asked *asked, uint8_t *out, size_t room, struct jp_report *report) {
     jp_document_new(asked->bytes.start, asked->bytes.length, asked->number, asked->handle, out, room, report);
 }
@@ -203,9 +203,9 @@ JNIEXPORT void JNICALL Java_jsonpath_jp_Engine_keepQuery(JNIEnv *env, jclass typ
 }
 
 JNIEXPORT jbyteArray JNICALL Java_jsonpath_jp_Engine_keepDocument(JNIEnv *env, jclass type, jlong handle,
-                                                                  jbyteArray document, jlongArray told) {
+                                                                  jbyteArray document, jint profile, jlongArray told) {
     (void)type;
-    struct asked asked = {copied(env, document), JP_STANDARD, 0, handle_at(handle), {0, 0, 0}};
+    struct asked asked = {copied(env, document), (uint32_t)profile, 0, handle_at(handle), {0, 0, 0}};
     return written(env, write_path, &asked, told);
 }
 
@@ -224,9 +224,10 @@ JNIEXPORT jbyteArray JNICALL Java_jsonpath_jp_Engine_explain(JNIEnv *env, jclass
 }
 
 JNIEXPORT jbyteArray JNICALL Java_jsonpath_jp_Engine_explainDocument(JNIEnv *env, jclass type, jbyteArray document,
-                                                                     jint part, jlongArray place, jlongArray told) {
+                                                                     jint profile, jint part, jlongArray place,
+                                                                     jlongArray told) {
     (void)type;
-    struct asked asked = {copied(env, document), JP_STANDARD, (uint32_t)part, NULL, {0, 0, 0}};
+    struct asked asked = {copied(env, document), (uint32_t)profile, (uint32_t)part, NULL, {0, 0, 0}};
     const jbyteArray text = written(env, write_misreading, &asked, told);
     if ((*env)->ExceptionCheck(env) == JNI_FALSE) {
         const jlong fields[] = {(jlong)asked.place.offset, (jlong)asked.place.line, (jlong)asked.place.column};

@@ -5,6 +5,7 @@ import jsonpath.jp.DocumentException;
 import jsonpath.jp.JsonPathException;
 import jsonpath.jp.Limits;
 import jsonpath.jp.Node;
+import jsonpath.jp.Numbers;
 import jsonpath.jp.Profile;
 import jsonpath.jp.Query;
 import jsonpath.jp.QueryException;
@@ -12,12 +13,13 @@ import jsonpath.jp.QueryException;
 /**
  * A query over a document, as the program jp does it.
  *
- * <pre>java Jp FORM QUERY [--extended] &lt; document</pre>
+ * <pre>java Jp FORM QUERY [--extended] [--decimals] &lt; document</pre>
  *
  * <p>FORM is eval, paths, both, canon or check. What is written, on both outputs, and the status are the ones of
- * {@code jp FORM QUERY}, but for its limits of lengths, its help, and the path that a number that is not whole has.
+ * {@code jp FORM QUERY}, but for its limits of lengths, its help, and the path of a number that is refused.
  */
 public final class Jp {
+    private static final List<String> FLAGS = List.of("--extended", "--decimals");
     private static final int USAGE = 2;
     private static final int QUERY_REFUSED = 1;
     private static final int DOCUMENT_REFUSED = 3;
@@ -33,8 +35,8 @@ public final class Jp {
         };
     }
 
-    private static String asked(String form, String text, Profile profile) throws IOException {
-        try (Query query = Query.compile(text, profile, Limits.NONE)) {
+    private static String asked(String form, String text, Profile profile, Numbers numbers) throws IOException {
+        try (Query query = Query.compile(text, profile, numbers, Limits.NONE)) {
             if (form.equals("canon")) {
                 return query.canonical() + "\n";
             }
@@ -58,13 +60,15 @@ public final class Jp {
     }
 
     private static int run(List<String> words) throws IOException {
-        boolean isExtended = words.size() > 2 && words.get(2).equals("--extended");
-        if (words.size() < 2 || words.size() > (isExtended ? 3 : 2)) {
-            System.err.println("usage: java Jp FORM QUERY [--extended] < document");
+        Profile profile = words.contains("--extended") ? Profile.EXTENDED : Profile.STANDARD;
+        Numbers numbers = words.contains("--decimals") ? Numbers.DECIMAL : Numbers.WHOLE;
+        List<String> others = words.stream().filter(word -> !FLAGS.contains(word)).toList();
+        if (others.size() != 2) {
+            System.err.println("usage: java Jp FORM QUERY [--extended] [--decimals] < document");
             return USAGE;
         }
         try {
-            String text = asked(words.get(0), words.get(1), isExtended ? Profile.EXTENDED : Profile.STANDARD);
+            String text = asked(others.get(0), others.get(1), profile, numbers);
             System.out.writeBytes(text.getBytes(StandardCharsets.UTF_8));
             System.out.flush();
             return 0;
@@ -79,7 +83,7 @@ public final class Jp {
     /**
      * Runs it.
      *
-     * @param words the form, the query, and maybe the flag
+     * @param words the form, the query, and maybe flags
      * @throws IOException where standard input can't be read
      */
     public static void main(String[] words) throws IOException {

@@ -9,6 +9,7 @@ import jsonpath.jp.Document;
 import jsonpath.jp.DocumentException;
 import jsonpath.jp.Limits;
 import jsonpath.jp.Node;
+import jsonpath.jp.Numbers;
 import jsonpath.jp.Profile;
 import jsonpath.jp.Queries;
 import jsonpath.jp.Query;
@@ -37,9 +38,12 @@ final class Calls {
         Check.equal(10_000, Check.kept("$[*]", document).size());
         String query = "$['" + "a".repeat(5000) + "']";
         Check.equal(query, Query.compile(query).canonical());
-        String path = Check.thrown(
-                DocumentException.class, () -> Check.find("$", "{\"" + "a".repeat(5000) + "\":1.5}")).path().get();
-        Check.equal(query, path);
+        for (String number : List.of("1.5", Decimals.TOO_MUCH)) {
+            Numbers numbers = number.equals("1.5") ? Numbers.WHOLE : Numbers.DECIMAL;
+            String text = "{\"" + "a".repeat(5000) + "\":" + number + "}";
+            Check.equal(query, Check.thrown(
+                    DocumentException.class, () -> Check.with(numbers, "$").find(text)).path().get());
+        }
     }
 
     public static void wholeNumbersOfJava() {
@@ -91,6 +95,7 @@ final class Calls {
         Check.equal("$ .a", query.toString());
         Check.equal("$['a']", query.canonical());
         Check.equal(Profile.STANDARD, query.profile());
+        Check.equal(Numbers.DECIMAL, query.numbers());
         Check.equal(Limits.NONE, query.limits());
         Limits limits = Limits.NONE.withSteps(100).withNodes(2).withBytes(3);
         Query extended = Query.compile("$[?distinct(@.*)]", Profile.EXTENDED, limits.withBytes(0));

@@ -3,6 +3,8 @@ import java.util.Objects;
 import jsonpath.jp.Document;
 import jsonpath.jp.Limits;
 import jsonpath.jp.Node;
+import jsonpath.jp.Numbers;
+import jsonpath.jp.Profile;
 import jsonpath.jp.Query;
 
 /** What tests expect, and short words for what they ask. */
@@ -42,6 +44,11 @@ final class Check {
         try (Query kept = Query.compile(query); Document read = Document.parse(document)) {
             return kept.find(read);
         }
+    }
+
+    /** A query with these numbers. */
+    static Query with(Numbers numbers, String query) {
+        return Query.compile(query, Profile.STANDARD, numbers, Limits.NONE);
     }
 
     static List<String> paths(List<Node> nodes) {

@@ -7,6 +7,8 @@ import jsonpath.jp.DocumentException;
 import jsonpath.jp.DocumentKind;
 import jsonpath.jp.JsonPathException;
 import jsonpath.jp.Limits;
+import jsonpath.jp.Numbers;
+import jsonpath.jp.Profile;
 import jsonpath.jp.Queries;
 import jsonpath.jp.Query;
 import jsonpath.jp.QueryException;
@@ -51,16 +53,31 @@ final class Errors {
         }
     }
 
+    private record Refused(String text, Numbers numbers, DocumentKind kind, String told) {}
+
     public static void whatADocumentsMessageTells() {
-        for (List<String> row : List.of(
-                List.of("{\"ä\":[1,\n2,]}", "document refused: NotJson\nline 2, column 3: "),
-                List.of("[2.5]", "document refused: NotWhole at $[0]\nline 1, column 2: "))) {
-            DocumentException fault = Check.thrown(DocumentException.class, () -> Check.find("$", row.get(0)));
-            Check.equal(row.get(1) + fault.sentence(), fault.getMessage());
+        String wrong = "{\"ä\":[1,\n2,]}";
+        String large = "[\n 0.5, " + Decimals.TOO_MUCH + "]";
+        for (Refused row : List.of(
+                new Refused(wrong, Numbers.DECIMAL, DocumentKind.NOT_JSON, "NotJson\nline 2, column 3: "),
+                new Refused(wrong, Numbers.WHOLE, DocumentKind.NOT_JSON, "NotJson\nline 2, column 3: "),
+                new Refused(
+                        "[2.5]", Numbers.WHOLE, DocumentKind.NUMBER_NOT_WHOLE,
+                        "NotWhole at $[0]\nline 1, column 2: "),
+                new Refused(
+                        large, Numbers.DECIMAL, DocumentKind.NUMBER_BEYOND_DECIMAL,
+                        "NumberRange at $[1]\nline 2, column 7: "))) {
+            Queries many = new Queries(List.of("$"), Profile.STANDARD, row.numbers(), Limits.NONE);
+            for (Runnable call : List.<Runnable>of(
+                    () -> Check.with(row.numbers(), "$").find(row.text()),
+                    () -> Document.parse(row.text(), row.numbers()),
+                    () -> many.find(row.text()).get(0).nodes())) {
+                DocumentException fault = Check.thrown(DocumentException.class, call);
+                Check.equal(row.kind(), fault.kind());
+                Check.equal("document refused: " + row.told() + fault.sentence(), fault.getMessage());
+                Check.thrown(JsonPathException.class, call);
+            }
         }
-        Runnable fraction = () -> Check.find("$", "[2.5]");
-        Check.equal(DocumentKind.NUMBER_NOT_WHOLE, Check.thrown(DocumentException.class, fraction).kind());
-        Check.thrown(JsonPathException.class, fraction);
     }
 
     public static void nullIsNoArgument() {
@@ -69,6 +86,9 @@ final class Errors {
                 () -> Query.compile(null),
                 () -> Query.compile("$", (Limits) null),
                 () -> Query.compile("$", null, Limits.NONE),
+                () -> Query.compile("$", Profile.STANDARD, null, Limits.NONE),
+                () -> Document.parse("[]", null),
+                () -> new Queries(List.of("$"), Profile.STANDARD, null, Limits.NONE),
                 () -> query.find((String) null),
                 () -> query.findFirst((byte[]) null),
                 () -> query.exists((Document) null),

@@ -32,7 +32,7 @@ final class Growth {
     public static void aMillionCalls() throws IOException {
         Query query = Query.compile("$.a[*]");
         Query few = Check.within("$.a[*]", 1);
-        Document document = Document.parse("{\"a\":[7" + ",8".repeat(1000) + "]}");
+        Document document = Document.parse("{\"a\":[7" + ",8.95".repeat(1000) + "]}");
         check(850_000, () -> Check.that(query.exists(document), "there is one"));
         check(100_000, () -> Check.that(query.exists("{\"a\":[7]}"), "there is one"));
         check(20_000, () -> Check.thrown(LimitException.class, () -> few.exists("{\"a\":[7]}")));

@@ -16,6 +16,7 @@ import jsonpath.jp.Document;
 import jsonpath.jp.DocumentException;
 import jsonpath.jp.Limits;
 import jsonpath.jp.Node;
+import jsonpath.jp.Numbers;
 import jsonpath.jp.Profile;
 import jsonpath.jp.Queries;
 import jsonpath.jp.Query;
@@ -60,12 +61,25 @@ final class Rows {
             return fields.get("document").get(0);
         }
 
+        /** The functions of its profile, which is one of four. */
         Profile profile() {
-            return text("profile").equals("Extended") ? Profile.EXTENDED : Profile.STANDARD;
+            return switch (text("profile")) {
+                case "Standard", "Decimal" -> Profile.STANDARD;
+                case "Extended", "ExtendedDecimal" -> Profile.EXTENDED;
+                default -> throw new AssertionError("no profile: " + text("profile"));
+            };
+        }
+
+        Numbers numbers() {
+            return text("profile").endsWith("Decimal") ? Numbers.DECIMAL : Numbers.WHOLE;
         }
 
         Query query() {
-            return Query.compile(text("query"), profile(), Limits.NONE);
+            return Query.compile(text("query"), profile(), numbers(), Limits.NONE);
+        }
+
+        Document kept() {
+            return Document.parse(document(), numbers());
         }
 
         /** What the row expects: not the name of a query's reason, which its exception does not tell. */
@@ -137,15 +151,16 @@ final class Rows {
         }
         byte[] document = row.document();
         String text = row.text("document");
-        Queries many = new Queries(List.of(row.text("query"), row.text("query")), row.profile(), Limits.NONE);
+        List<String> twice = List.of(row.text("query"), row.text("query"));
+        Queries many = new Queries(twice, row.profile(), row.numbers(), Limits.NONE);
         List<Map<String, List<String>>> answers = new ArrayList<>();
         for (Answer answer : many.find(document)) {
             answers.add(told(answer::nodes));
         }
         try (Query query = row.query()) {
             answers.add(told(() -> query.find(document)));
-            answers.add(told(() -> query.find(Document.parse(document))));
-            answers.add(told(() -> query.findEach(Document.parse(document))));
+            answers.add(told(() -> query.find(row.kept())));
+            answers.add(told(() -> query.findEach(row.kept())));
             answers.addAll(refusals(row, query));
             if (!text.contains("\ufffd")) {
                 answers.add(told(() -> query.find(text)));
@@ -190,9 +205,9 @@ final class Rows {
             List<Node> nodes = query.find(document);
             Optional<Node> first = nodes.stream().findFirst();
             Check.equal(first, query.findFirst(document));
-            Check.equal(first, query.findFirst(Document.parse(document)));
+            Check.equal(first, query.findFirst(row.kept()));
             Check.equal(first.isPresent(), query.exists(document));
-            Check.equal(first.isPresent(), query.exists(Document.parse(document)));
+            Check.equal(first.isPresent(), query.exists(row.kept()));
             checkFirstOfText(query, row.text("document"), first);
             for (Node node : nodes) {
                 Check.equal(node.path(), path(node.steps()));

@@ -65,6 +65,7 @@ final class Threads {
         String nested = "[".repeat(126) + "]".repeat(126);
         for (List<String> row : List.of(
                 List.of("$.a", "{\"a\":1}"),
+                List.of("$[?@<8.95]", "[8.94,1e-7,1e400]"),
                 List.of(deep, nested),
                 List.of("$[?@".repeat(200), "[1]"),
                 List.of("$", nested))) {

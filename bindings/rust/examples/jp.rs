@@ -1,13 +1,13 @@
 //! A query over a document, as the program jp does it:
 //!
 //! ```text
-//! jp FORM QUERY [--extended] < document
+//! jp FORM QUERY [--extended] [--decimals] < document
 //! ```
 //!
 //! FORM is eval, paths, both, canon or check. What is written, on both outputs, and the status are the ones of
-//! `jp FORM QUERY`, but for its limits of lengths, its help, and the path that a number that is not whole has.
+//! `jp FORM QUERY`, but for its limits of lengths, its help, and the path of a number that is refused.
 
-use jsonpath_jp::{Error, Nodes, Profile, Query};
+use jsonpath_jp::{Error, Nodes, Numbers, Profile, Query};
 use std::env;
 use std::io::{self, Read, Write};
 use std::process::ExitCode;
@@ -24,8 +24,8 @@ fn lines(form: &str, nodes: &Nodes) -> String {
         .collect()
 }
 
-fn asked(form: &str, text: &str, profile: Profile) -> Result<String, Error> {
-    let query = Query::parse_with(text, profile)?;
+fn asked(form: &str, text: &str, profile: Profile, numbers: Numbers) -> Result<String, Error> {
+    let query = Query::parse_with(text, profile, numbers)?;
     match form {
         "canon" => Ok(query.canonical()? + "\n"),
         "check" => Ok("accepted\n".to_owned()),
@@ -40,16 +40,20 @@ fn asked(form: &str, text: &str, profile: Profile) -> Result<String, Error> {
 }
 
 fn main() -> ExitCode {
-    let words: Vec<_> = env::args().skip(1).collect();
-    let (form, query, profile) = match &words.iter().map(String::as_str).collect::<Vec<_>>()[..] {
-        [form, query] => (*form, *query, Profile::Standard),
-        [form, query, "--extended"] => (*form, *query, Profile::Extended),
-        _ => {
-            eprintln!("usage: jp FORM QUERY [--extended] < document");
-            return ExitCode::from(2);
+    let (mut profile, mut numbers) = (Profile::Standard, Numbers::Whole);
+    let mut words = Vec::new();
+    for word in env::args().skip(1) {
+        match word.as_str() {
+            "--extended" => profile = Profile::Extended,
+            "--decimals" => numbers = Numbers::Decimal,
+            _ => words.push(word),
         }
+    }
+    let [form, query] = &words[..] else {
+        eprintln!("usage: jp FORM QUERY [--extended] [--decimals] < document");
+        return ExitCode::from(2);
     };
-    match asked(form, query, profile) {
+    match asked(form, query, profile, numbers) {
         Ok(text) => {
             io::stdout()
                 .write_all(text.as_bytes())

@@ -1,7 +1,7 @@
 //! Why there is no answer.
 
 use crate::numbers::{document_part, part, status, DocumentKind, QueryKind};
-use crate::query::Profile;
+use crate::profile::Numbers;
 use crate::raw::{self, Place, Report};
 use std::fmt;
 
@@ -19,6 +19,8 @@ pub enum Error {
     TooManyNodes(u64),
     /// The answer has more bytes than it may have, which is this.
     TooManyBytes(u64),
+    /// The document that is kept was read with these numbers, and the query has others.
+    OtherNumbers(Numbers),
     /// Memory ran out.
     NoMemory,
     /// The thread has too little stack left, and no other could be started.
@@ -54,18 +56,24 @@ const BY_LINES: &str =
 
 impl Error {
     /// The error of a report whose status is that of no answer, over no document.
-    pub(crate) fn of_query(report: &Report, query: &str, profile: Profile) -> Self {
+    pub(crate) fn of_query(report: &Report, query: &str, profile: u32) -> Self {
         match report.status {
             status::QUERY_REFUSED => Error::Query(Box::new(QueryError::of(report, query, profile))),
-            _ => Error::of_document(report, String::new(), &[]),
+            status::OTHER_NUMBERS => Error::OtherNumbers(Numbers::other_than(profile)),
+            _ => Error::of_document(report, String::new(), &[], profile),
         }
     }
 
-    /// The same where no query was read. The text is the path of a number that is not whole.
-    pub(crate) fn of_document(report: &Report, text: String, document: &[u8]) -> Self {
+    /// The same where no query was read. The text is the path of a number that the profile has not.
+    pub(crate) fn of_document(
+        report: &Report,
+        text: String,
+        document: &[u8],
+        profile: u32,
+    ) -> Self {
         match report.status {
             status::DOCUMENT_REFUSED => {
-                Error::Document(Box::new(DocumentError::of(report, text, document)))
+                Error::Document(Box::new(DocumentError::of(report, text, document, profile)))
             }
             status::NO_MEMORY => Error::NoMemory,
             status::STEPS_USED_UP => Error::StepsUsedUp(report.steps),
@@ -76,8 +84,8 @@ impl Error {
 }
 
 impl QueryError {
-    fn of(report: &Report, query: &str, profile: Profile) -> Self {
-        let told = |part| raw::explain(query.as_bytes(), profile.number(), part);
+    fn of(report: &Report, query: &str, profile: u32) -> Self {
+        let told = |part| raw::explain(query.as_bytes(), profile, part);
         QueryError {
             kind: QueryKind::of(report.kind).expect("a kind that jp.h names"),
             place: report.place,
@@ -122,8 +130,9 @@ impl QueryError {
 }
 
 impl DocumentError {
-    fn of(report: &Report, path: String, document: &[u8]) -> Self {
-        let (place, reason) = raw::explain_document(document, document_part::DOCUMENT_REASON);
+    fn of(report: &Report, path: String, document: &[u8], profile: u32) -> Self {
+        let told = |part| raw::explain_document(document, profile, part);
+        let (place, reason) = told(document_part::DOCUMENT_REASON);
         let Place {
             offset,
             line,
@@ -137,7 +146,7 @@ impl DocumentError {
             line,
             column,
             reason,
-            sentence: raw::explain_document(document, document_part::DOCUMENT_SENTENCE).1,
+            sentence: told(document_part::DOCUMENT_SENTENCE).1,
             suggestion: is_of_lines.then_some(BY_LINES),
         }
     }
@@ -179,8 +188,8 @@ impl DocumentError {
         self.kind
     }
 
-    /// Of [`DocumentKind::NotWhole`] the normalized path of the first number that is not a whole one of 64
-    /// bits.
+    /// Of [`DocumentKind::NotWhole`] the normalized path of the first number that is not a whole one of 64 bits, and
+    /// of [`DocumentKind::NumberRange`] that of the first one that is too much for a decimal.
     pub fn path(&self) -> Option<&str> {
         self.path.as_deref()
     }
@@ -200,6 +209,12 @@ impl fmt::Display for Error {
             Error::TooManyBytes(limit) => {
                 write!(f, "too many bytes: the answer has more than {limit}")
             }
+            Error::OtherNumbers(numbers) => write!(
+                f,
+                "other numbers: the document was read with {}, which the query has not: read one of them with the \
+                 numbers of the other, by Document::parse_with or Query::parse_with",
+                numbers.name()
+            ),
             Error::NoMemory => f.write_str("jp ran out of memory"),
             Error::NoStack => {
                 f.write_str("jp has too little stack, and no other thread can be started")

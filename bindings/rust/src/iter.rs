@@ -62,9 +62,24 @@ impl OwnedNode {
         &self.line[..self.tab]
     }
 
-    /// The value, as a compact JSON text with the members of objects sorted by name.
+    /// The value, as [`Node::value`] gives it.
     pub fn value(&self) -> &str {
         &self.line[self.tab + 1..]
+    }
+
+    /// The value where it is a whole number that fits, as [`Node::as_i128`] gives it.
+    pub fn as_i128(&self) -> Option<i128> {
+        self.as_node().as_i128()
+    }
+
+    /// The value as a double, where nothing is lost, as [`Node::as_f64`] gives it.
+    pub fn as_f64(&self) -> Option<f64> {
+        self.as_node().as_f64()
+    }
+
+    /// The double that is nearest to the value, as [`Node::as_f64_lossy`] gives it.
+    pub fn as_f64_lossy(&self) -> Option<f64> {
+        self.as_node().as_f64_lossy()
     }
 
     /// The JSON Pointer (RFC 6901) to it.

@@ -3,17 +3,28 @@
 //! ```
 //! use jsonpath_jp::Query;
 //!
-//! let query = Query::parse("$.book[?@.price < 10].title")?;
-//! let nodes = query.find(br#"{"book":[{"title":"A","price":9},{"title":"B","price":12}]}"#)?;
-//! for node in &nodes {
-//!     assert_eq!(node.path(), "$['book'][0]['title']");
-//!     assert_eq!(node.value(), "\"A\"");
-//! }
+//! // RFC 9535, Figure 1.
+//! let store = br#"{"store": {
+//!     "book": [
+//!         {"category": "reference", "author": "Nigel Rees", "title": "Sayings of the Century", "price": 8.95},
+//!         {"category": "fiction", "author": "Evelyn Waugh", "title": "Sword of Honour", "price": 12.99},
+//!         {"category": "fiction", "author": "Herman Melville", "title": "Moby Dick",
+//!          "isbn": "0-553-21311-3", "price": 8.99},
+//!         {"category": "fiction", "author": "J. R. R. Tolkien", "title": "The Lord of the Rings",
+//!          "isbn": "0-395-19395-8", "price": 22.99}
+//!     ],
+//!     "bicycle": {"color": "red", "price": 399}
+//! }}"#;
+//! let nodes = Query::parse("$..book[?@.price<10].title")?.find(store)?;
+//! let values: Vec<_> = nodes.iter().map(|node| node.value()).collect();
+//! assert_eq!(values, ["\"Sayings of the Century\"", "\"Moby Dick\""]);
+//! assert_eq!(nodes.first().map(|node| node.path()), Some("$['store']['book'][0]['title']"));
 //! # Ok::<(), jsonpath_jp::Error>(())
 //! ```
 //!
 //! A document is the bytes of a JSON text, and a node's value is a compact JSON text, so that any JSON crate
-//! can be used beside this one. Numbers of documents are whole numbers of 64 bits, and are given back exactly.
+//! can be used beside this one. Numbers are exact decimals, of which none is rounded; [`Numbers::Whole`] asks for whole
+//! ones of 64 bits.
 //!
 //! What is asked of again and again can be kept: a [`Query`] is read once, and so is a [`Document`].
 //!
@@ -55,11 +66,13 @@
     clippy::undocumented_unsafe_blocks
 )]
 
+mod decimal;
 mod document;
 mod error;
 mod iter;
 mod nodes;
 mod numbers;
+mod profile;
 mod queries;
 mod query;
 #[allow(unsafe_code)]
@@ -70,8 +83,9 @@ pub use error::{DocumentError, Error, QueryError};
 pub use iter::{FindIter, OwnedNode};
 pub use nodes::{Iter, Node, Nodes};
 pub use numbers::{DocumentKind, QueryKind};
+pub use profile::{Numbers, Profile};
 pub use queries::Queries;
-pub use query::{Profile, Query};
+pub use query::Query;
 
 /// The version of the engine, as `0.1.0`.
 pub fn version() -> String {

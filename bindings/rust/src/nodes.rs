@@ -1,5 +1,6 @@
 //! The nodes that a query selects.
 
+use crate::decimal;
 use crate::raw;
 use std::fmt;
 use std::iter::FusedIterator;
@@ -75,9 +76,52 @@ impl<'n> Node<'n> {
         self.path
     }
 
-    /// The value, as a compact JSON text with the members of objects sorted by name.
+    /// The value, as a compact JSON text with the members of objects sorted by name. Numbers have all their digits, in
+    /// one spelling for each number (RFC 8785, section 3.2.2.3): 8.950 is `8.95`, 1.0 is `1`, and 1e400 is `1e+400`.
     pub fn value(&self) -> &'n str {
         self.value
+    }
+
+    /// The value where it is a whole number that fits: exact, however it is written.
+    ///
+    /// ```
+    /// use jsonpath_jp::Query;
+    ///
+    /// let nodes = Query::parse("$[*]")?.find(b"[100, 1e30, 8.0, 8.95, 1e400, \"8\"]")?;
+    /// let whole: Vec<_> = nodes.iter().map(|node| node.as_i128()).collect();
+    /// assert_eq!(whole, [Some(100), Some(10_i128.pow(30)), Some(8), None, None, None]);
+    /// # Ok::<(), jsonpath_jp::Error>(())
+    /// ```
+    pub fn as_i128(&self) -> Option<i128> {
+        decimal::whole(self.value)
+    }
+
+    /// The value as a double, where nothing is lost: the double's shortest text is the same number.
+    ///
+    /// ```
+    /// use jsonpath_jp::Query;
+    ///
+    /// let nodes = Query::parse("$[*]")?.find(b"[8.950, 0.1, 9007199254740993, 1e400]")?;
+    /// let exact: Vec<_> = nodes.iter().map(|node| node.as_f64()).collect();
+    /// assert_eq!(exact, [Some(8.95), Some(0.1), None, None]);
+    /// # Ok::<(), jsonpath_jp::Error>(())
+    /// ```
+    pub fn as_f64(&self) -> Option<f64> {
+        decimal::double(self.value)
+    }
+
+    /// The double that is nearest to the value, where it is a number; infinite where it is beyond all doubles.
+    ///
+    /// ```
+    /// use jsonpath_jp::Query;
+    ///
+    /// let nodes = Query::parse("$[*]")?.find(b"[9007199254740993, -1e400, \"1\"]")?;
+    /// let near: Vec<_> = nodes.iter().map(|node| node.as_f64_lossy()).collect();
+    /// assert_eq!(near, [Some(9007199254740992.0), Some(f64::NEG_INFINITY), None]);
+    /// # Ok::<(), jsonpath_jp::Error>(())
+    /// ```
+    pub fn as_f64_lossy(&self) -> Option<f64> {
+        decimal::nearest_double(self.value)
     }
 
     /// The JSON Pointer (RFC 6901) to it.

@@ -3,7 +3,8 @@
 use crate::error::Error;
 use crate::nodes::Nodes;
 use crate::numbers::{form, status};
-use crate::query::{answer, Profile};
+use crate::profile::{self, Numbers, Profile};
+use crate::query::answer;
 use crate::raw::{self, Limit, Question};
 use std::num::NonZeroU64;
 
@@ -26,16 +27,17 @@ pub struct Queries {
     /// Where each ends in the text.
     ends: Vec<usize>,
     profile: Profile,
+    numbers: Numbers,
     limit: Limit,
 }
 
 impl Queries {
-    /// The queries, which are not read yet, with the functions of RFC 9535.
+    /// The queries, which are not read yet, with the functions of RFC 9535 and exact decimals.
     pub fn new<Q: AsRef<str>>(queries: impl IntoIterator<Item = Q>) -> Self {
         Self::with_profile(queries, Profile::Standard)
     }
 
-    /// The queries, which are not read yet, with the functions of the profile.
+    /// The queries, which are not read yet, with the functions of the profile and exact decimals.
     pub fn with_profile<Q: AsRef<str>>(
         queries: impl IntoIterator<Item = Q>,
         profile: Profile,
@@ -49,6 +51,21 @@ impl Queries {
             made.ends.push(made.text.len());
         }
         made
+    }
+
+    /// The queries with these numbers, which the document has too.
+    ///
+    /// ```
+    /// use jsonpath_jp::{Numbers, Queries};
+    ///
+    /// let queries = Queries::new(["$[0]"]);
+    /// assert!(queries.find(b"[8.95]")[0].is_ok());
+    /// assert!(queries.with_numbers(Numbers::Whole).find(b"[8.95]")[0].is_err());
+    /// ```
+    #[must_use]
+    pub fn with_numbers(mut self, numbers: Numbers) -> Self {
+        self.numbers = numbers;
+        self
     }
 
     /// The queries with a limit of steps, the whole of it for each.
@@ -93,13 +110,14 @@ impl Queries {
     /// # Ok::<(), Error>(())
     /// ```
     pub fn find(&self, document: &[u8]) -> Vec<Result<Nodes, Error>> {
+        let profile = profile::number(self.profile, self.numbers);
         let mut questions: Vec<_> = self.spans().map(question).collect();
         let written = raw::eval_many(
             self.text.as_bytes(),
             &mut questions,
             document,
             form::BOTH,
-            self.profile.number(),
+            profile,
             self.limit,
         );
         let mut rest = written.as_str();
@@ -115,7 +133,7 @@ impl Queries {
                 _ => {
                     let query = &self.text[start..end];
                     let text = text.to_owned();
-                    answer(report, text, query, self.profile, document, self.limit)
+                    answer(report, text, query, profile, document, self.limit)
                 }
             };
             if let Err(fault @ Error::Document(_)) = &answer {

@@ -4,7 +4,8 @@ use crate::document::Document;
 use crate::error::Error;
 use crate::iter::{Asked, FindIter};
 use crate::nodes::Nodes;
-use crate::numbers::{form, profile, status};
+use crate::numbers::{form, status};
+use crate::profile::{self, Numbers, Profile};
 use crate::raw::{self, Cursor, Handle, Limit, Report};
 use std::fmt;
 use std::num::NonZeroU64;
@@ -22,25 +23,6 @@ pub(crate) struct Span {
 const ALL: Span = Span { from: 0, count: 0 };
 const FIRST: Span = Span { from: 0, count: 1 };
 
-/// Which functions a query may call.
-#[derive(Clone, Copy, Debug, Default, PartialEq, Eq, Hash)]
-pub enum Profile {
-    /// Those of RFC 9535.
-    #[default]
-    Standard,
-    /// Also `distinct`, which gives each node of a nodelist once.
-    Extended,
-}
-
-impl Profile {
-    pub(crate) fn number(self) -> u32 {
-        match self {
-            Profile::Standard => profile::STANDARD,
-            Profile::Extended => profile::EXTENDED,
-        }
-    }
-}
-
 /// A query that is accepted. It can be kept, and asked of any number of documents.
 ///
 /// ```
@@ -54,18 +36,19 @@ impl Profile {
 pub struct Query {
     text: String,
     profile: Profile,
+    numbers: Numbers,
     limit: Limit,
     handle: Mutex<Handle>,
 }
 
 impl Query {
-    /// Reads a query with the functions of RFC 9535.
+    /// Reads a query with the functions of RFC 9535 and exact decimals.
     ///
     /// # Errors
     ///
     /// [`Error::Query`] where it is refused, [`Error::NoMemory`] and [`Error::NoStack`].
     pub fn parse(text: &str) -> Result<Self, Error> {
-        Self::parse_with(text, Profile::Standard)
+        Self::parse_with(text, Profile::Standard, Numbers::Decimal)
     }
 
     /// Reads a query that may also call `distinct`.
@@ -82,25 +65,36 @@ impl Query {
     /// # Ok::<(), jsonpath_jp::Error>(())
     /// ```
     pub fn parse_extended(text: &str) -> Result<Self, Error> {
-        Self::parse_with(text, Profile::Extended)
+        Self::parse_with(text, Profile::Extended, Numbers::Decimal)
     }
 
-    /// Reads a query with the functions of the profile.
+    /// Reads a query with the functions of the profile and with these numbers.
     ///
     /// # Errors
     ///
     /// Those of [`parse`](Self::parse).
-    pub fn parse_with(text: &str, profile: Profile) -> Result<Self, Error> {
+    ///
+    /// ```
+    /// use jsonpath_jp::{Error, Numbers, Profile, Query, QueryKind};
+    ///
+    /// let Err(Error::Query(fault)) = Query::parse_with("$[?@ < 0.5]", Profile::Standard, Numbers::Whole) else {
+    ///     panic!("it is refused")
+    /// };
+    /// assert_eq!((fault.kind(), fault.place()), (QueryKind::NotWhole, 7));
+    /// ```
+    pub fn parse_with(text: &str, profile: Profile, numbers: Numbers) -> Result<Self, Error> {
         let mut handle = Handle::empty();
-        let report = handle.keep_query(text.as_bytes(), profile.number());
+        let number = profile::number(profile, numbers);
+        let report = handle.keep_query(text.as_bytes(), number);
         match report.status {
             status::DONE => Ok(Query {
                 text: text.to_owned(),
                 profile,
+                numbers,
                 limit: Limit::default(),
                 handle: Mutex::new(handle),
             }),
-            _ => Err(Error::of_query(&report, text, profile)),
+            _ => Err(Error::of_query(&report, text, number)),
         }
     }
 
@@ -171,6 +165,11 @@ impl Query {
         self.profile
     }
 
+    /// The numbers with which it was read, which its documents have too.
+    pub fn numbers(&self) -> Numbers {
+        self.numbers
+    }
+
     /// How many steps it may make over a document, where there is a limit.
     pub fn limit(&self) -> Option<NonZeroU64> {
         NonZeroU64::new(self.limit.steps)
@@ -219,7 +218,8 @@ impl Query {
     ///
     /// # Errors
     ///
-    /// Those of [`find`](Self::find), but for [`Error::Document`].
+    /// Those of [`find`](Self::find), but for [`Error::Document`]; and [`Error::OtherNumbers`] where the document was
+    /// read with other [`Numbers`] than the query.
     pub fn find_in(&self, document: &Document) -> Result<Nodes, Error> {
         self.lines_in(form::BOTH, ALL, document)
             .map(Nodes::of_lines)
@@ -243,11 +243,12 @@ impl Query {
     /// [`Error::Document`] where the bytes are no document, [`Error::NoMemory`] and [`Error::NoStack`]. The iterator
     /// has [`Error::StepsUsedUp`], too.
     pub fn find_iter(&self, document: &[u8]) -> Result<FindIter<'_>, Error> {
-        let document = Document::parse(document)?;
+        let document = Document::parse_with(document, self.numbers)?;
         Ok(FindIter::new(self, Asked::Own(document)))
     }
 
-    /// The same of a document that is kept.
+    /// The same of a document that is kept. Where it was read with other [`Numbers`] than the query, the iterator has
+    /// [`Error::OtherNumbers`] alone.
     pub fn find_iter_in<'q>(&'q self, document: &'q Document) -> FindIter<'q> {
         FindIter::new(self, Asked::Lent(document))
     }
@@ -285,7 +286,7 @@ impl Query {
     /// # Ok::<(), jsonpath_jp::Error>(())
     /// ```
     pub fn canonical(&self) -> Result<String, Error> {
-        let (report, text) = raw::canon(self.text.as_bytes(), self.profile.number());
+        let (report, text) = raw::canon(self.text.as_bytes(), self.number());
         self.answer(&report, text, &[])
     }
 
@@ -299,7 +300,7 @@ impl Query {
             // Another thread asks the query, which is read anew so that none waits for it.
             Err(TryLockError::WouldBlock) => {
                 let mut query = Handle::empty();
-                let report = query.keep_query(self.text.as_bytes(), self.profile.number());
+                let report = query.keep_query(self.text.as_bytes(), self.number());
                 match report.status {
                     status::DONE => query.ask(document, form, span, self.limit),
                     _ => (report, String::new()),
@@ -330,7 +331,19 @@ impl Query {
 
     /// The text of an outcome, or the error that it stands for.
     fn answer(&self, report: &Report, text: String, document: &[u8]) -> Result<String, Error> {
-        answer(report, text, &self.text, self.profile, document, self.limit)
+        answer(
+            report,
+            text,
+            &self.text,
+            self.number(),
+            document,
+            self.limit,
+        )
+    }
+
+    /// The number of its functions and numbers.
+    fn number(&self) -> u32 {
+        profile::number(self.profile, self.numbers)
     }
 }
 
@@ -339,7 +352,7 @@ pub(crate) fn answer(
     report: &Report,
     text: String,
     query: &str,
-    profile: Profile,
+    profile: u32,
     document: &[u8],
     limit: Limit,
 ) -> Result<String, Error> {
@@ -347,7 +360,7 @@ pub(crate) fn answer(
         status::DONE => Ok(text),
         status::TOO_MANY_NODES => Err(Error::TooManyNodes(limit.nodes)),
         status::TOO_MANY_BYTES => Err(Error::TooManyBytes(limit.bytes)),
-        status::DOCUMENT_REFUSED => Err(Error::of_document(report, text, document)),
+        status::DOCUMENT_REFUSED => Err(Error::of_document(report, text, document, profile)),
         _ => Err(Error::of_query(report, query, profile)),
     }
 }
@@ -371,6 +384,7 @@ impl fmt::Debug for Query {
         f.debug_struct("Query")
             .field("text", &self.text)
             .field("profile", &self.profile)
+            .field("numbers", &self.numbers)
             .field("limit", &self.limit())
             .field("max_nodes", &self.max_nodes())
             .field("max_bytes", &self.max_bytes())

@@ -3,7 +3,7 @@
 //! Slices are never null, and are borrowed as C uses them: what is read is shared, and what is written is
 //! exclusive. So nothing more is owed than that no two calls use a handle at once, which takes `&mut Handle`.
 
-use crate::numbers::{self, profile, status};
+use crate::numbers::{self, status};
 use crate::query::Span;
 use std::ffi::c_void;
 use std::io;
@@ -212,7 +212,7 @@ pub(crate) fn explain(query: &[u8], profile: u32, part: u32) -> String {
 }
 
 /// What `jp_explain_document` writes, and where the document goes wrong.
-pub(crate) fn explain_document(document: &[u8], part: u32) -> (Place, String) {
+pub(crate) fn explain_document(document: &[u8], profile: u32, part: u32) -> (Place, String) {
     let mut place = Place::default();
     let (_, text) = written(|out, length, report| {
         // SAFETY: each pointer is to as many bytes as the length beside it says.
@@ -220,7 +220,7 @@ pub(crate) fn explain_document(document: &[u8], part: u32) -> (Place, String) {
             jp_explain_document(
                 document.as_ptr(),
                 document.len(),
-                profile::STANDARD,
+                profile,
                 part,
                 &mut place,
                 out,
@@ -251,15 +251,16 @@ impl Handle {
         report
     }
 
-    /// Keeps the document, where it is one; else the text is the path of a number that is not whole.
-    pub(crate) fn keep_document(&mut self, document: &[u8]) -> (Report, String) {
+    /// Keeps the document, where it is one with the numbers of the profile; else the text is the path of a number that
+    /// is not of these.
+    pub(crate) fn keep_document(&mut self, document: &[u8], profile: u32) -> (Report, String) {
         written(|out, length, report| {
             // SAFETY: each pointer is to as many bytes as the length beside it says, and the handle is ours.
             unsafe {
                 jp_document_new(
                     document.as_ptr(),
                     document.len(),
-                    profile::STANDARD,
+                    profile,
                     self,
                     out,
                     length,

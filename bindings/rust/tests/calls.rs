@@ -1,8 +1,8 @@
 //! What users of the crate see besides what bindings/rows.jsonl has. Expected values are by hand.
 
 use jsonpath_jp::{
-    version, Document, DocumentKind, Error, FindIter, Nodes, OwnedNode, Profile, Queries, Query,
-    QueryKind,
+    version, Document, DocumentKind, Error, FindIter, Nodes, Numbers, OwnedNode, Profile, Queries,
+    Query, QueryKind,
 };
 use std::num::NonZeroU64;
 use std::thread;
@@ -12,9 +12,29 @@ const STORE: &str = r#"{"store":{"book":[
     {"category":"fiction","author":"Evelyn Waugh","title":"Sword","price":12}],
     "bicycle":{"color":"red","price":399}}}"#;
 
+/// RFC 9535, Figure 1.
+const PRICES: &str = r#"{"store": {
+    "book": [
+        {"category": "reference", "author": "Nigel Rees", "title": "Sayings of the Century", "price": 8.95},
+        {"category": "fiction", "author": "Evelyn Waugh", "title": "Sword of Honour", "price": 12.99},
+        {"category": "fiction", "author": "Herman Melville", "title": "Moby Dick",
+         "isbn": "0-553-21311-3", "price": 8.99},
+        {"category": "fiction", "author": "J. R. R. Tolkien", "title": "The Lord of the Rings",
+         "isbn": "0-395-19395-8", "price": 22.99}
+    ],
+    "bicycle": {"color": "red", "price": 399}
+}}"#;
+
 fn find(query: &str, document: &str) -> Result<Nodes, Error> {
     Query::parse(query)?.find(document.as_bytes())
 }
+
+fn find_with(query: &str, document: &str, numbers: Numbers) -> Result<Nodes, Error> {
+    Query::parse_with(query, Profile::Standard, numbers)?.find(document.as_bytes())
+}
+
+/// A number of 39 digits, which is no decimal, and no whole number of 64 bits.
+const TOO_MUCH: &str = "123456789012345678901234567890123456789";
 
 fn paths(nodes: &Nodes) -> Vec<&str> {
     nodes.iter().map(|node| node.path()).collect()
@@ -50,11 +70,17 @@ fn a_text_longer_than_the_first_buffer() {
     }
     let long = format!("$['{}']", "a".repeat(5000));
     assert_eq!(Query::parse(&long).unwrap().canonical().unwrap(), long);
-    let Err(Error::Document(fault)) = find("$", &format!("{{\"{}\":1.5}}", "a".repeat(5000)))
-    else {
-        panic!("it is refused");
-    };
-    assert_eq!(fault.path().map(str::len), Some(5005));
+    for (number, numbers) in [
+        ("1.5", Numbers::Whole),
+        (TOO_MUCH, Numbers::Whole),
+        (TOO_MUCH, Numbers::Decimal),
+    ] {
+        let document = format!("{{\"{}\":{number}}}", "a".repeat(5000));
+        let Err(Error::Document(fault)) = find_with("$", &document, numbers) else {
+            panic!("it is refused");
+        };
+        assert_eq!(fault.path().map(str::len), Some(5005));
+    }
 }
 
 fn kept(query: &str, document: &str) -> Result<Nodes, Error> {
@@ -66,6 +92,7 @@ fn what_a_query_tells_of_itself() {
     let query: Query = "$ .a".parse().unwrap();
     assert_eq!((query.text(), query.to_string().as_str()), ("$ .a", "$ .a"));
     assert_eq!((query.profile(), query.limit()), (Profile::Standard, None));
+    assert_eq!(query.numbers(), Numbers::Decimal);
     assert_eq!(query.canonical().unwrap(), "$['a']");
     let query = Query::parse_extended("$[?distinct(@.*)]")
         .unwrap()
@@ -160,19 +187,30 @@ fn pointers() {
 
 #[test]
 fn what_the_error_of_a_document_tells() {
-    for (document, kind, told) in [
+    let too_much = format!("[\n 0.5, {TOO_MUCH}]");
+    for (document, numbers, kind, told) in [
         (
             "{\"ä\":[1,\n2,]}",
+            Numbers::Decimal,
             DocumentKind::NotJson,
             "document refused: NotJson: line 2, column 3: ",
         ),
         (
             "[2.5]",
+            Numbers::Whole,
             DocumentKind::NotWhole,
             "document refused: NotWhole at $[0]: line 1, column 2: ",
         ),
+        (
+            &too_much,
+            Numbers::Decimal,
+            DocumentKind::NumberRange,
+            "document refused: NumberRange at $[1]: line 2, column 7: ",
+        ),
     ] {
-        let error = find("$", document).unwrap_err();
+        let error = find_with("$", document, numbers).unwrap_err();
+        let read = Document::parse_with(document.as_bytes(), numbers);
+        assert_eq!(read.unwrap_err(), error);
         let Error::Document(fault) = &error else {
             panic!("it is refused")
         };
@@ -404,14 +442,14 @@ fn threads() {
     is_shared::<FindIter<'static>>();
     is_shared::<Error>();
 
-    let query = Query::parse("$[*]").unwrap();
-    let document = Document::parse(b"[1,2,3]").unwrap();
+    let query = Query::parse("$[?@<8.95]").unwrap();
+    let document = Document::parse(b"[8.94,1e-7,-8.95,8.95]").unwrap();
     thread::scope(|scope| {
         for _ in 0..4 {
             scope.spawn(|| {
                 for _ in 0..500 {
                     assert_eq!(query.find_in(&document).unwrap().len(), 3);
-                    assert_eq!(query.find(b"[1,2]").unwrap().len(), 2);
+                    assert_eq!(query.find(b"[8.9,8.95]").unwrap().len(), 1);
                 }
             });
         }
@@ -436,6 +474,7 @@ fn little_stack() {
     let nested = format!("{}{}", "[".repeat(126), "]".repeat(126));
     for (query, document) in [
         ("$.a", "{\"a\":1}"),
+        ("$[?@<8.95]", "[8.94,1e-7,1e400]"),
         (&deep, &nested),
         (&"$[?@".repeat(200), "[1]"),
         ("$", &nested),
@@ -458,6 +497,258 @@ fn little_stack() {
     // What a thread with room keeps is freed by one with little.
     let query = Query::parse(&deep).unwrap();
     on_little_stack(64 << 10, move || drop(query));
+}
+
+/// How many nodes of Figure 1 of RFC 9535 cost less than ten, by each way to ask; as whole numbers its first price is
+/// refused, in the order of its text.
+#[test]
+fn decimals_are_the_default() {
+    let cheap = Query::parse("$..book[?@.price<10].title").unwrap();
+    let titles = ["\"Sayings of the Century\"", "\"Moby Dick\""];
+    let document = Document::parse(PRICES.as_bytes()).unwrap();
+    let many = Queries::new([cheap.text()]).find(PRICES.as_bytes());
+    for nodes in [
+        cheap.find(PRICES.as_bytes()).unwrap(),
+        cheap.find_in(&document).unwrap(),
+        many[0].clone().unwrap(),
+    ] {
+        assert!(nodes.iter().map(|node| node.value()).eq(titles));
+    }
+    for nodes in [
+        cheap.find_iter(PRICES.as_bytes()).unwrap(),
+        cheap.find_iter_in(&document),
+    ] {
+        let nodes: Vec<_> = nodes.map(Result::unwrap).collect();
+        assert!(nodes.iter().map(|node| node.value()).eq(titles));
+    }
+    assert!(cheap.exists(PRICES.as_bytes()).unwrap() && cheap.exists_in(&document).unwrap());
+    let whole = Query::parse_with(cheap.text(), Profile::Standard, Numbers::Whole).unwrap();
+    let refused = Document::parse_with(PRICES.as_bytes(), Numbers::Whole).unwrap_err();
+    let Error::Document(fault) = &refused else {
+        panic!("{refused}")
+    };
+    assert_eq!(
+        (fault.kind(), fault.path()),
+        (
+            DocumentKind::NotWhole,
+            Some("$['store']['book'][0]['price']")
+        )
+    );
+    assert_eq!(whole.find(PRICES.as_bytes()), Err(refused.clone()));
+    assert_eq!(whole.exists(PRICES.as_bytes()), Err(refused.clone()));
+    assert!(matches!(whole.find_iter(PRICES.as_bytes()), Err(fault) if fault == refused));
+    let many = Queries::new([whole.text()]).with_numbers(Numbers::Whole);
+    assert_eq!(many.find(PRICES.as_bytes()), [Err(refused)]);
+}
+
+#[test]
+fn functions_and_numbers_are_chosen_apart() {
+    let text = "$[?count(distinct(@['a','a']))==1 && @.a<8.95]";
+    let document = br#"[{"a":8.94},{"a":8.95}]"#;
+    let query = Query::parse_extended(text).unwrap();
+    assert_eq!(
+        (query.profile(), query.numbers()),
+        (Profile::Extended, Numbers::Decimal)
+    );
+    assert_eq!(paths(&query.find(document).unwrap()), ["$[0]"]);
+    let many = Queries::with_profile([text], Profile::Extended).find(document);
+    assert_eq!(paths(many[0].as_ref().unwrap()), ["$[0]"]);
+    for (profile, numbers, kind, place) in [
+        (
+            Profile::Standard,
+            Numbers::Decimal,
+            QueryKind::UnknownFunction,
+            9,
+        ),
+        (
+            Profile::Standard,
+            Numbers::Whole,
+            QueryKind::UnknownFunction,
+            9,
+        ),
+        (Profile::Extended, Numbers::Whole, QueryKind::NotWhole, 41),
+    ] {
+        let Err(Error::Query(fault)) = Query::parse_with(text, profile, numbers) else {
+            panic!("it is refused")
+        };
+        assert_eq!((fault.kind(), fault.place()), (kind, place));
+        assert!(!fault.sentence().is_empty());
+    }
+    let of_range = format!("$[?@<{TOO_MUCH}]");
+    let Err(Error::Query(fault)) = Query::parse(&of_range) else {
+        panic!("it is refused")
+    };
+    assert_eq!((fault.kind(), fault.place()), (QueryKind::NumberRange, 5));
+    assert_eq!(
+        Query::parse("$[?@==8.950]").unwrap().canonical().unwrap(),
+        "$[?@==8.95]"
+    );
+}
+
+#[test]
+fn a_document_of_other_numbers() {
+    for (asked, read, named) in [
+        (Numbers::Decimal, Numbers::Whole, "whole numbers"),
+        (Numbers::Whole, Numbers::Decimal, "decimals"),
+    ] {
+        let document = Document::parse_with(b"[1,2]", read).unwrap();
+        assert_eq!(document.numbers(), read);
+        for profile in [Profile::Standard, Profile::Extended] {
+            let query = Query::parse_with("$[*]", profile, asked).unwrap();
+            let refused = Error::OtherNumbers(read);
+            assert_eq!(query.find_in(&document), Err(refused.clone()));
+            assert_eq!(query.find_first_in(&document), Err(refused.clone()));
+            assert_eq!(query.exists_in(&document), Err(refused.clone()));
+            let mut nodes = query.find_iter_in(&document);
+            assert_eq!(nodes.next(), Some(Err(refused.clone())));
+            assert_eq!(nodes.next(), None);
+            assert_eq!(
+                refused.to_string(),
+                format!(
+                    "other numbers: the document was read with {named}, which the query has not: read one of them \
+                     with the numbers of the other, by Document::parse_with or Query::parse_with"
+                )
+            );
+            // Both are kept, and asked of what has the same numbers.
+            let same = Query::parse_with("$[*]", profile, read).unwrap();
+            assert_eq!(same.find_in(&document).unwrap().len(), 2);
+            assert_eq!(query.find(b"[1,2]").unwrap().len(), 2);
+        }
+    }
+}
+
+/// Texts of numbers by RFC 8785, section 3.2.2.3, and whole ones and doubles by arithmetic.
+#[test]
+fn values_of_numbers() {
+    let largest = "170141183460469231731687303715884105727";
+    let power = 10_i128.pow(37);
+    for (written, text, whole, double, near) in [
+        ("8.950", "8.95", None, Some(8.95), 8.95),
+        ("-0.10", "-0.1", None, Some(-0.1), -0.1),
+        ("1.0", "1", Some(1), Some(1.0), 1.0),
+        ("-0.0", "0", Some(0), Some(0.0), 0.0),
+        ("0e7", "0", Some(0), Some(0.0), 0.0),
+        ("1e2", "100", Some(100), Some(100.0), 100.0),
+        ("-25e-1", "-2.5", None, Some(-2.5), -2.5),
+        (
+            "1e20",
+            "100000000000000000000",
+            Some(10_i128.pow(20)),
+            Some(1e20),
+            1e20,
+        ),
+        ("1e21", "1e+21", Some(10_i128.pow(21)), Some(1e21), 1e21),
+        (
+            "-12e36",
+            "-1.2e+37",
+            Some(-12 * power / 10),
+            Some(-1.2e37),
+            -1.2e37,
+        ),
+        ("17e37", "1.7e+38", Some(17 * power), Some(1.7e38), 1.7e38),
+        ("18e37", "1.8e+38", None, Some(1.8e38), 1.8e38),
+        ("1e400", "1e+400", None, None, f64::INFINITY),
+        ("-1e400", "-1e+400", None, None, f64::NEG_INFINITY),
+        ("1e-400", "1e-400", None, None, 0.0),
+        ("0.0000001", "1e-7", None, Some(1e-7), 1e-7),
+        ("0.000001", "0.000001", None, Some(1e-6), 1e-6),
+        (
+            "9007199254740993",
+            "9007199254740993",
+            Some(9007199254740993),
+            None,
+            9007199254740992.0,
+        ),
+        (
+            "18446744073709551615",
+            "18446744073709551615",
+            Some(u64::MAX as i128),
+            None,
+            18446744073709551616.0,
+        ),
+        // The double is 0.1000000000000000055.., whose shortest text is 0.1.
+        (
+            "0.10000000000000000555",
+            "0.10000000000000000555",
+            None,
+            None,
+            0.1,
+        ),
+        (
+            "12345678901234567890123456789012345678",
+            "1.2345678901234567890123456789012345678e+37",
+            Some(12345678901234567890123456789012345678),
+            None,
+            1.2345678901234568e37,
+        ),
+    ] {
+        let document = format!("[{written}]");
+        let query = Query::parse("$[*]").unwrap();
+        let nodes = query.find(document.as_bytes()).unwrap();
+        let node = nodes.only().unwrap();
+        assert_eq!(node.value(), text);
+        let values = (node.as_i128(), node.as_f64(), node.as_f64_lossy());
+        assert_eq!(values, (whole, double, Some(near)), "{written}");
+        let next = query.find_iter(document.as_bytes()).unwrap().next();
+        let own = next.unwrap().unwrap();
+        assert_eq!((own.as_i128(), own.as_f64(), own.as_f64_lossy()), values);
+    }
+    let none = r#"["8.95","1e5","inf",null,true,[1],{"a":1},"",[]]"#;
+    for node in &find("$[*]", none).unwrap() {
+        assert_eq!(
+            (node.as_i128(), node.as_f64(), node.as_f64_lossy()),
+            (None, None, None)
+        );
+    }
+    // The largest of 128 bits has 39 digits, and so is no decimal.
+    assert!(find("$", largest).is_err());
+}
+
+/// What is no JSON is none with decimals either.
+#[test]
+fn numbers_that_are_no_json() {
+    for text in [
+        "NaN",
+        "Infinity",
+        "-Infinity",
+        ".5",
+        "1.",
+        "+1",
+        "01",
+        "0x1",
+        "1e",
+        "-",
+    ] {
+        for numbers in [Numbers::Decimal, Numbers::Whole] {
+            let Err(Error::Document(fault)) = find_with("$", &format!("[{text}]"), numbers) else {
+                panic!("it is refused")
+            };
+            assert_eq!(fault.kind(), DocumentKind::NotJson, "{text}");
+            assert!(!fault.sentence().is_empty(), "{text}");
+        }
+    }
+}
+
+/// Limits with decimals: `$[0]`, a tab, 1.5 and a newline are nine bytes, and steps are those of whole numbers.
+#[test]
+fn limits_with_decimals() {
+    let document = Document::parse(b"[1.5,2.5,3.5]").unwrap();
+    let all = || Query::parse("$[*]").unwrap();
+    let most = all().with_max_nodes(steps(3)).with_max_bytes(steps(27));
+    assert_eq!(most.find_in(&document).unwrap().len(), 3);
+    assert_eq!(
+        all().with_max_bytes(steps(26)).find(b"[1.5,2.5,3.5]"),
+        Err(Error::TooManyBytes(26))
+    );
+    assert_eq!(
+        all().with_max_nodes(steps(2)).find_in(&document),
+        Err(Error::TooManyNodes(2))
+    );
+    for (needed, refusal) in [(9, None), (8, Some(Error::StepsUsedUp(8)))] {
+        let query = Query::parse("$[?@==2.5]").unwrap();
+        let answer = query.with_limit(steps(needed)).find(b"[1.5,2.5]");
+        assert_eq!(answer.err(), refusal);
+    }
 }
 
 #[test]

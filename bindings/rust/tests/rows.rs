@@ -2,7 +2,7 @@
 //! many queries, and one node after another. Or those of the file that `JP_ROWS` names. They come in the plain form of
 //! bindings/rows.py, since the standard library reads no JSON.
 
-use jsonpath_jp::{Document, Error, FindIter, Nodes, Profile, Queries, Query};
+use jsonpath_jp::{Document, Error, FindIter, Nodes, Numbers, Profile, Queries, Query};
 use std::env;
 use std::fs;
 use std::path::Path;
@@ -116,25 +116,33 @@ fn told_of_each(nodes: Result<FindIter<'_>, Error>) -> Fields {
     }
 }
 
+/// The functions and the numbers of a row's profile.
+fn choices(row: &Fields) -> (Profile, Numbers) {
+    match get(row, "profile").expect("a profile") {
+        b"Standard" => (Profile::Standard, Numbers::Whole),
+        b"Extended" => (Profile::Extended, Numbers::Whole),
+        b"Decimal" => (Profile::Standard, Numbers::Decimal),
+        b"ExtendedDecimal" => (Profile::Extended, Numbers::Decimal),
+        other => panic!("no profile: {}", String::from_utf8_lossy(other)),
+    }
+}
+
 /// What each way to ask gives.
 fn answers(row: &Fields) -> Vec<Fields> {
     let text = String::from_utf8(get(row, "query").expect("a query").to_vec()).unwrap();
-    let profile = match get(row, "profile") {
-        Some(b"Extended") => Profile::Extended,
-        _ => Profile::Standard,
-    };
-    let query = Query::parse_with(&text, profile);
+    let (profile, numbers) = choices(row);
+    let query = Query::parse_with(&text, profile, numbers);
     let Some(document) = get(row, "document") else {
         return vec![match query.and_then(|query| query.canonical()) {
             Ok(canonical) => vec![field("canonical", canonical)],
             Err(fault) => told_of_all(Err(fault)),
         }];
     };
-    let many = Queries::with_profile([&text, &text], profile).find(document);
-    let mut answers: Vec<_> = many.into_iter().map(told_of_all).collect();
+    let many = Queries::with_profile([&text, &text], profile).with_numbers(numbers);
+    let mut answers: Vec<_> = many.find(document).into_iter().map(told_of_all).collect();
     match query {
         Ok(query) => {
-            let kept = Document::parse(document);
+            let kept = Document::parse_with(document, numbers);
             answers.push(told_of_all(kept.and_then(|kept| query.find_in(&kept))));
             answers.push(told_of_each(query.find_iter(document)));
             let all = query.find(document);
@@ -150,7 +158,7 @@ fn answers(row: &Fields) -> Vec<Fields> {
 fn assert_first(query: &Query, document: &[u8], all: &Result<Nodes, Error>) {
     let mut firsts = vec![query.find_first(document)];
     let mut exist = vec![query.exists(document)];
-    if let Ok(kept) = Document::parse(document) {
+    if let Ok(kept) = Document::parse_with(document, query.numbers()) {
         firsts.push(query.find_first_in(&kept));
         exist.push(query.exists_in(&kept));
     }

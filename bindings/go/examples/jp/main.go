@@ -1,9 +1,9 @@
 // A query over a document, as the program jp does it:
 //
-//	jp FORM QUERY [--extended] < document
+//	jp FORM QUERY [--extended] [--decimals] < document
 //
 // FORM is eval, paths, both, canon or check. What is written, on both outputs, and the status are the ones of
-// `jp FORM QUERY`, but for its limits of lengths, its help, and the path that a number that is not whole has.
+// `jp FORM QUERY`, but for its limits of lengths, its help, and the path of a number that is refused.
 package main
 
 import (
@@ -17,16 +17,23 @@ import (
 )
 
 func main() {
-	words := os.Args[1:]
-	compile := jp.Compile
-	if len(words) == 3 && words[2] == "--extended" {
-		words, compile = words[:2], jp.CompileExtended
+	var words []string
+	options := jp.Options{Numbers: jp.Whole}
+	for _, word := range os.Args[1:] {
+		switch word {
+		case "--extended":
+			options.Extended = true
+		case "--decimals":
+			options.Numbers = jp.Decimal
+		default:
+			words = append(words, word)
+		}
 	}
 	if len(words) != 2 {
-		fmt.Fprintln(os.Stderr, "usage: jp FORM QUERY [--extended] < document")
+		fmt.Fprintln(os.Stderr, "usage: jp FORM QUERY [--extended] [--decimals] < document")
 		os.Exit(2)
 	}
-	query, err := compile(words[1])
+	query, err := jp.CompileWith(words[1], options)
 	if err == nil {
 		err = write(words[0], query)
 	}

@@ -1,5 +1,6 @@
 package jsonpath.jp;
 
+import java.util.Objects;
 import java.util.function.Function;
 import java.util.function.Predicate;
 import java.util.function.Supplier;
@@ -21,16 +22,22 @@ import java.util.function.Supplier;
 public final class Document implements AutoCloseable {
     /** The text, from which it is read again where a call that nobody waits for has it still. */
     private final byte[] text;
+    private final Numbers numbers;
     private Reading reading;
     private volatile boolean isClosed;
 
-    private Document(byte[] text) {
+    private Document(byte[] text, Numbers numbers) {
         this.text = text;
-        reading = new Reading(text);
+        this.numbers = Objects.requireNonNull(numbers, "numbers");
+        reading = read();
+    }
+
+    private Reading read() {
+        return new Reading(text, Profile.STANDARD.number(numbers));
     }
 
     /**
-     * Reads a document.
+     * Reads a document, whose numbers are decimals.
      *
      * @param text a JSON text
      * @return the document
@@ -38,11 +45,11 @@ public final class Document implements AutoCloseable {
      * @throws InterruptedQueryException where the text is long, and the thread is interrupted meanwhile
      */
     public static Document parse(String text) {
-        return new Document(Texts.encoded(text));
+        return parse(text, Numbers.DECIMAL);
     }
 
     /**
-     * Reads a document.
+     * Reads a document, whose numbers are decimals.
      *
      * @param text a JSON text in UTF-8, which is copied
      * @return the document
@@ -50,7 +57,42 @@ public final class Document implements AutoCloseable {
      * @throws InterruptedQueryException where the text is long, and the thread is interrupted meanwhile
      */
     public static Document parse(byte[] text) {
-        return new Document(text.clone());
+        return parse(text, Numbers.DECIMAL);
+    }
+
+    /**
+     * Reads a document.
+     *
+     * @param text a JSON text
+     * @param numbers those of the document, and of the queries that it is asked
+     * @return the document
+     * @throws DocumentException where the text is none
+     * @throws InterruptedQueryException where the text is long, and the thread is interrupted meanwhile
+     */
+    public static Document parse(String text, Numbers numbers) {
+        return new Document(Texts.encoded(text), numbers);
+    }
+
+    /**
+     * Reads a document.
+     *
+     * @param text a JSON text in UTF-8, which is copied
+     * @param numbers those of the document, and of the queries that it is asked
+     * @return the document
+     * @throws DocumentException where the text is none
+     * @throws InterruptedQueryException where the text is long, and the thread is interrupted meanwhile
+     */
+    public static Document parse(byte[] text, Numbers numbers) {
+        return new Document(text.clone(), numbers);
+    }
+
+    /**
+     * The numbers with which it was read.
+     *
+     * @return the numbers
+     */
+    public Numbers numbers() {
+        return numbers;
     }
 
     /** What a call gives with the handle that keeps the document. */
@@ -68,7 +110,7 @@ public final class Document implements AutoCloseable {
     private synchronized Reading reading() {
         requireOpen();
         if (reading == null) {
-            reading = new Reading(text);
+            reading = read();
         }
         return reading;
     }

@@ -45,7 +45,7 @@ public final class DocumentException extends JsonPathException {
 
     /**
      * Of {@link DocumentKind#NUMBER_NOT_WHOLE} the normalized path of the first number that is not a whole one of 64
-     * bits.
+     * bits, and of {@link DocumentKind#NUMBER_BEYOND_DECIMAL} that of the first one that is too much for a decimal.
      *
      * @return the path, if there is one
      */

@@ -31,8 +31,8 @@ final class Engine {
     /** Keeps the query. */
     static native void keepQuery(long handle, byte[] query, int profile, long[] told);
 
-    /** Keeps the document; gives the path of a number that is not whole. */
-    static native byte[] keepDocument(long handle, byte[] document, long[] told);
+    /** Keeps the document; gives the path of a number that the profile has not. */
+    static native byte[] keepDocument(long handle, byte[] document, int profile, long[] told);
 
     /** The canonical text of the query. */
     static native byte[] canonical(byte[] query, int profile, long[] told);
@@ -41,7 +41,7 @@ final class Engine {
     static native byte[] explain(byte[] query, int profile, int part, long[] told);
 
     /** Why the document is refused, and where: the byte, the line and the column. */
-    static native byte[] explainDocument(byte[] document, int part, long[] place, long[] told);
+    static native byte[] explainDocument(byte[] document, int profile, int part, long[] place, long[] told);
 
     /** The lines of as many of the first nodes as the count says, where 0 is all; or the path of a number. */
     static native byte[] ask(

@@ -33,32 +33,32 @@ final class Handle {
         memory.clean();
     }
 
-    Outcome keepQuery(byte[] query, Profile profile) {
+    Outcome keepQuery(byte[] query, int profile) {
         long[] told = new long[Engine.TOLD];
         try {
-            Engine.keepQuery(address, query, profile.number(), told);
+            Engine.keepQuery(address, query, profile, told);
         } finally {
             Reference.reachabilityFence(this);
         }
         return Outcome.ofQuery(told, query, profile);
     }
 
-    Outcome keepDocument(byte[] document) {
+    Outcome keepDocument(byte[] document, int profile) {
         long[] told = new long[Engine.TOLD];
         try {
-            return Outcome.ofDocument(told, Engine.keepDocument(address, document, told), document);
+            return Outcome.ofDocument(told, Engine.keepDocument(address, document, profile, told), document, profile);
         } finally {
             Reference.reachabilityFence(this);
         }
     }
 
-    /** The lines that the query which this handle keeps gives of a text. */
-    Outcome ask(byte[] document, Wanted wanted, Limits run) {
+    /** The lines that the query of this profile, which this handle keeps, gives of a text. */
+    Outcome ask(byte[] document, int profile, Wanted wanted, Limits run) {
         long[] told = new long[Engine.TOLD];
         try {
             byte[] lines = Engine.ask(
                     address, document, wanted.form(), wanted.count(), run.steps(), run.nodes(), run.bytes(), told);
-            return Outcome.ofDocument(told, lines, document);
+            return Outcome.ofDocument(told, lines, document, profile);
         } finally {
             Reference.reachabilityFence(this);
         }

@@ -1,5 +1,6 @@
 package jsonpath.jp;
 
+import java.math.BigDecimal;
 import java.math.BigInteger;
 import java.util.List;
 import java.util.stream.Collectors;
@@ -8,7 +9,9 @@ import java.util.stream.Collectors;
  * A node that a query selects: a place in the document with the value there.
  *
  * @param path its normalized path (RFC 9535, section 2.7)
- * @param value its value as a compact JSON text, with the members of objects sorted by name
+ * @param value its value as a compact JSON text, with the members of objects sorted by name; numbers have all their
+ *     digits, in one spelling for each number (RFC 8785, section 3.2.2.3): 8.950 is {@code 8.95}, 1.0 is {@code 1}, and
+ *     1e400 is {@code 1e+400}
  */
 public record Node(String path, String value) {
     /**
@@ -37,8 +40,8 @@ public record Node(String path, String value) {
     }
 
     /**
-     * The value, where it is a whole number that a long holds. Numbers from 2^63 on are whole numbers of documents
-     * too, and {@link #asBigInteger} has each of them.
+     * The value, where it is a whole number that a long holds. {@link #asBigInteger} has those that it does not, and
+     * {@link #asBigDecimal} each number.
      *
      * @return the number, which is never rounded
      * @throws NumberFormatException where it is none
@@ -48,13 +51,27 @@ public record Node(String path, String value) {
     }
 
     /**
-     * The value, where it is a number.
+     * The value, where it is a whole number, however it is written: 1e30 is one.
      *
      * @return the number, which is never rounded
      * @throws NumberFormatException where it is none
      */
     public BigInteger asBigInteger() {
-        return new BigInteger(value);
+        try {
+            return asBigDecimal().toBigIntegerExact();
+        } catch (ArithmeticException fault) {
+            throw new NumberFormatException("no whole number: " + value);
+        }
+    }
+
+    /**
+     * The value, where it is a number.
+     *
+     * @return the number, which is never rounded
+     * @throws NumberFormatException where it is none
+     */
+    public BigDecimal asBigDecimal() {
+        return new BigDecimal(value);
     }
 
     /**

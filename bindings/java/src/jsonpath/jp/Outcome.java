@@ -6,10 +6,10 @@ import java.nio.charset.StandardCharsets;
  * What one run of a call tells and gives. Why something is refused is looked for where the call was made, since that
  * reads it once more.
  *
- * @param status one of {@link Numbers}
+ * @param status one of {@link Codes}
  * @param kind of a refusal
  * @param place the byte of a query at which it is refused
- * @param text lines, or the path of a number that is not whole; never null
+ * @param text lines, or the path of a number that is refused; never null
  * @param why of a refusal, else null
  */
 record Outcome(int status, int kind, long place, byte[] text, Why why) {
@@ -32,32 +32,32 @@ record Outcome(int status, int kind, long place, byte[] text, Why why) {
     }
 
     /** The outcome of reading a query. */
-    static Outcome ofQuery(long[] told, byte[] query, Profile profile) {
-        return told[0] == Numbers.QUERY_REFUSED ? of(told, NONE, whyOfQuery(query, profile)) : of(told, NONE);
+    static Outcome ofQuery(long[] told, byte[] query, int profile) {
+        return told[0] == Codes.QUERY_REFUSED ? of(told, NONE, whyOfQuery(query, profile)) : of(told, NONE);
     }
 
     /** The outcome of a call that reads the document. */
-    static Outcome ofDocument(long[] told, byte[] text, byte[] document) {
-        return told[0] == Numbers.DOCUMENT_REFUSED ? of(told, text, whyOfDocument(document)) : of(told, text);
+    static Outcome ofDocument(long[] told, byte[] text, byte[] document, int profile) {
+        return told[0] == Codes.DOCUMENT_REFUSED ? of(told, text, whyOfDocument(document, profile)) : of(told, text);
     }
 
-    private static Why whyOfQuery(byte[] query, Profile profile) {
-        String suggestion = part(query, profile, Numbers.SUGGESTION);
-        String explanation = part(query, profile, Numbers.EXPLANATION);
-        String sentence = part(query, profile, Numbers.SENTENCE);
+    private static Why whyOfQuery(byte[] query, int profile) {
+        String suggestion = part(query, profile, Codes.SUGGESTION);
+        String explanation = part(query, profile, Codes.EXPLANATION);
+        String sentence = part(query, profile, Codes.SENTENCE);
         return new Why(sentence, suggestion.isEmpty() ? null : suggestion, explanation, "", null);
     }
 
-    private static String part(byte[] query, Profile profile, int part) {
-        return Texts.decoded(Engine.explain(query, profile.number(), part, new long[Engine.TOLD]));
+    private static String part(byte[] query, int profile, int part) {
+        return Texts.decoded(Engine.explain(query, profile, part, new long[Engine.TOLD]));
     }
 
     /** Why the text is no document. */
-    static Why whyOfDocument(byte[] document) {
+    static Why whyOfDocument(byte[] document, int profile) {
         long[] place = new long[3];
-        String reason = part(document, Numbers.DOCUMENT_REASON, place);
+        String reason = part(document, profile, Codes.DOCUMENT_REASON, place);
         boolean isOfLines = reason.equals("AfterValue") && isLine(document, (int) place[0]);
-        String sentence = part(document, Numbers.DOCUMENT_SENTENCE, place);
+        String sentence = part(document, profile, Codes.DOCUMENT_SENTENCE, place);
         return new Why(sentence, isOfLines ? BY_LINES : null, "", reason, place);
     }
 
@@ -68,24 +68,24 @@ record Outcome(int status, int kind, long place, byte[] text, Why why) {
         return before.stripTrailing().length() < before.lastIndexOf('\n') + 1 && value.indexOf('\n') < 0;
     }
 
-    private static String part(byte[] document, int part, long[] place) {
-        return Texts.decoded(Engine.explainDocument(document, part, place, new long[Engine.TOLD]));
+    private static String part(byte[] document, int profile, int part, long[] place) {
+        return Texts.decoded(Engine.explainDocument(document, profile, part, place, new long[Engine.TOLD]));
     }
 
     /** The text, or throws why there is none. */
     byte[] textOrThrow(String query, Limits limits) {
-        if (status == Numbers.DONE) {
+        if (status == Codes.DONE) {
             return text;
         }
-        if (status == Numbers.NO_MEMORY) {
+        if (status == Codes.NO_MEMORY) {
             throw noMemory();
         }
         throw switch (status) {
-            case Numbers.QUERY_REFUSED -> new QueryException(QueryKind.of(kind), place, query, why);
-            case Numbers.DOCUMENT_REFUSED -> new DocumentException(DocumentKind.of(kind), Texts.decoded(text), why);
-            case Numbers.STEPS_USED_UP -> new LimitException(LimitException.Kind.STEPS, limits.steps(), query);
-            case Numbers.TOO_MANY_NODES -> new LimitException(LimitException.Kind.NODES, limits.nodes(), query);
-            case Numbers.TOO_MANY_BYTES -> new LimitException(LimitException.Kind.BYTES, limits.bytes(), query);
+            case Codes.QUERY_REFUSED -> new QueryException(QueryKind.of(kind), place, query, why);
+            case Codes.DOCUMENT_REFUSED -> new DocumentException(DocumentKind.of(kind), Texts.decoded(text), why);
+            case Codes.STEPS_USED_UP -> new LimitException(LimitException.Kind.STEPS, limits.steps(), query);
+            case Codes.TOO_MANY_NODES -> new LimitException(LimitException.Kind.NODES, limits.nodes(), query);
+            case Codes.TOO_MANY_BYTES -> new LimitException(LimitException.Kind.BYTES, limits.bytes(), query);
             default -> throw new AssertionError("the status " + status + " of jp.h");
         };
     }

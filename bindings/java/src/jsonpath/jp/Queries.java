@@ -26,13 +26,14 @@ public final class Queries {
 
     private final List<String> texts;
     private final Profile profile;
+    private final Numbers numbers;
     private final Limits limits;
     private final byte[] joined;
     /** Where each ends in the text of all. */
     private final long[] ends;
 
     /**
-     * Queries with the functions of RFC 9535, and without a limit. They are not read yet.
+     * Queries with the functions of RFC 9535 and decimals, and without a limit. They are not read yet.
      *
      * @param texts the queries
      */
@@ -41,15 +42,28 @@ public final class Queries {
     }
 
     /**
-     * Queries, which are not read yet.
+     * Queries with decimals, which are not read yet.
      *
      * @param texts the queries
      * @param profile the functions that they may call
      * @param limits the most that each may do and give
      */
     public Queries(List<String> texts, Profile profile, Limits limits) {
+        this(texts, profile, Numbers.DECIMAL, limits);
+    }
+
+    /**
+     * Queries, which are not read yet.
+     *
+     * @param texts the queries
+     * @param profile the functions that they may call
+     * @param numbers those of the queries and of the document
+     * @param limits the most that each may do and give
+     */
+    public Queries(List<String> texts, Profile profile, Numbers numbers, Limits limits) {
         this.texts = List.copyOf(texts);
         this.profile = Objects.requireNonNull(profile, "profile");
+        this.numbers = Objects.requireNonNull(numbers, "numbers");
         this.limits = Objects.requireNonNull(limits, "limits");
         ByteArrayOutputStream bytes = new ByteArrayOutputStream();
         ends = new long[this.texts.size()];
@@ -108,9 +122,9 @@ public final class Queries {
 
         Answer answer(String query) {
             if (document == null) {
-                document = Document.parse(text);
+                document = Document.parse(text, numbers);
             }
-            try (Query kept = Query.compile(query, profile, limits)) {
+            try (Query kept = Query.compile(query, profile, numbers, limits)) {
                 return Answer.of(() -> kept.find(document));
             }
         }
@@ -125,21 +139,22 @@ public final class Queries {
 
     /** The outcomes of one run for each query. Why the document is refused is looked for once. */
     private List<Outcome> outcomes(byte[] document, Limits run) {
+        int number = profile.number(numbers);
         long[] told = new long[Engine.TOLD * ends.length];
         byte[] lines = Engine.askMany(
-                joined, ends, document, profile.number(), run.steps(), run.nodes(), run.bytes(), told);
+                joined, ends, document, number, run.steps(), run.nodes(), run.bytes(), told);
         if (lines == null) {
             throw Outcome.noMemory();
         }
-        boolean isRefused = anyIs(Numbers.DOCUMENT_REFUSED, told);
-        Outcome.Why why = isRefused ? Outcome.whyOfDocument(document) : null;
+        boolean isRefused = anyIs(Codes.DOCUMENT_REFUSED, told);
+        Outcome.Why why = isRefused ? Outcome.whyOfDocument(document, number) : null;
         List<Outcome> outcomes = new ArrayList<>(ends.length);
         int start = 0;
         for (int at = 0; at < ends.length; at += 1) {
             long[] one = Arrays.copyOfRange(told, Engine.TOLD * at, Engine.TOLD * (at + 1));
             int end = start + (int) one[Engine.TOLD - 1];
-            if (one[0] == Numbers.QUERY_REFUSED) {
-                outcomes.add(Outcome.ofQuery(one, Texts.encoded(texts.get(at)), profile));
+            if (one[0] == Codes.QUERY_REFUSED) {
+                outcomes.add(Outcome.ofQuery(one, Texts.encoded(texts.get(at)), number));
             } else {
                 outcomes.add(Outcome.of(one, Arrays.copyOfRange(lines, start, end), why));
             }

@@ -10,8 +10,8 @@ import java.util.Optional;
  *
  * <pre>{@code
  * try (Query query = Query.compile("$.book[?@.price < 10].title")) {
- *     for (Node node : query.find("{\"book\":[{\"title\":\"A\",\"price\":9}]}")) {
- *         System.out.println(node.path() + " " + node.value()); // $['book'][0]['title'] "A"
+ *     for (Node node : query.find("{\"book\":[{\"title\":\"Moby Dick\",\"price\":8.99}]}")) {
+ *         System.out.println(node.path() + " " + node.value()); // $['book'][0]['title'] "Moby Dick"
  *     }
  * }
  * }</pre>
@@ -19,6 +19,7 @@ import java.util.Optional;
  * <p>Nodes come in the order of RFC 9535, and one that is selected twice stands there twice. A document is a JSON text,
  * as characters or as bytes in UTF-8, or one that is kept. Each call that asks throws {@link DocumentException} where a
  * text is no document, {@link LimitException} where the query goes beyond one of its limits,
+ * {@link OtherNumbersException} where a document that is kept was read with other {@link Numbers} than the query has,
  * {@link InterruptedQueryException} where its thread is interrupted while it waits, {@link IllegalStateException} where
  * the query or the document is closed, and {@link OutOfMemoryError}.
  *
@@ -27,18 +28,25 @@ import java.util.Optional;
 public final class Query implements AutoCloseable {
     private final String text;
     private final Profile profile;
+    private final Numbers numbers;
     private final Limits limits;
     private final SpareHandles handles;
 
-    private Query(String text, Profile profile, Limits limits) {
+    private Query(String text, Profile profile, Numbers numbers, Limits limits) {
         this.text = text;
         this.profile = Objects.requireNonNull(profile, "profile");
+        this.numbers = Objects.requireNonNull(numbers, "numbers");
         this.limits = Objects.requireNonNull(limits, "limits");
-        handles = new SpareHandles(text, profile);
+        handles = new SpareHandles(text, number());
+    }
+
+    /** The number that the engine has for the functions and the numbers. */
+    private int number() {
+        return profile.number(numbers);
     }
 
     /**
-     * Reads a query with the functions of RFC 9535, and without a limit.
+     * Reads a query with the functions of RFC 9535 and decimals, and without a limit.
      *
      * @param text the query
      * @return the query
@@ -49,7 +57,7 @@ public final class Query implements AutoCloseable {
     }
 
     /**
-     * Reads a query with the functions of RFC 9535.
+     * Reads a query with the functions of RFC 9535 and decimals.
      *
      * @param text the query
      * @param limits the most that each call may do and give
@@ -61,7 +69,7 @@ public final class Query implements AutoCloseable {
     }
 
     /**
-     * Reads a query.
+     * Reads a query with decimals.
      *
      * @param text the query
      * @param profile the functions that it may call
@@ -70,7 +78,21 @@ public final class Query implements AutoCloseable {
      * @throws QueryException where it is refused
      */
     public static Query compile(String text, Profile profile, Limits limits) {
-        return new Query(text, profile, limits);
+        return compile(text, profile, Numbers.DECIMAL, limits);
+    }
+
+    /**
+     * Reads a query.
+     *
+     * @param text the query
+     * @param profile the functions that it may call
+     * @param numbers those of the query and of the documents that it is asked of
+     * @param limits the most that each call may do and give
+     * @return the query
+     * @throws QueryException where it is refused
+     */
+    public static Query compile(String text, Profile profile, Numbers numbers, Limits limits) {
+        return new Query(text, profile, numbers, limits);
     }
 
     /**
@@ -92,6 +114,15 @@ public final class Query implements AutoCloseable {
     }
 
     /**
+     * The numbers with which it was read, which its documents have too.
+     *
+     * @return the numbers
+     */
+    public Numbers numbers() {
+        return numbers;
+    }
+
+    /**
      * The most that each call may do and give.
      *
      * @return the limits
@@ -110,7 +141,7 @@ public final class Query implements AutoCloseable {
         byte[] query = Texts.encoded(text);
         Outcome outcome = Runs.reading(query.length, () -> {
             long[] told = new long[Engine.TOLD];
-            return Outcome.of(told, Engine.canonical(query, profile.number(), told));
+            return Outcome.of(told, Engine.canonical(query, number(), told));
         });
         return Texts.decoded(outcome.textOrThrow(text, limits));
     }
@@ -231,7 +262,7 @@ public final class Query implements AutoCloseable {
 
     private byte[] lines(byte[] document, Wanted wanted) {
         Outcome outcome = Runs.of(limits, document.length, run -> handles.lent(
-                document.length, query -> query.ask(document, wanted, run)));
+                document.length, query -> query.ask(document, number(), wanted, run)));
         return outcome.textOrThrow(text, limits);
     }
 
@@ -245,8 +276,12 @@ public final class Query implements AutoCloseable {
     }
 
     private Outcome asked(Document document, Limits limits, Asked asked) {
-        return document.leftWhereInterrupted(() -> Runs.of(limits, 0, run -> handles.lent(
+        Outcome outcome = document.leftWhereInterrupted(() -> Runs.of(limits, 0, run -> handles.lent(
                 0, query -> document.lent(kept -> asked.of(query, kept, run)))));
+        if (outcome.status() == Codes.OTHER_NUMBERS) {
+            throw new OtherNumbersException(document.numbers(), text);
+        }
+        return outcome;
     }
 
     /** Gives the memory back, as soon as no call uses it. Further calls throw {@link IllegalStateException}. */

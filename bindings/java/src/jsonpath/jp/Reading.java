@@ -16,9 +16,9 @@ final class Reading {
     private volatile Thread user;
 
     /** Reads the text, or throws why it is no document. */
-    Reading(byte[] text) {
-        Outcome outcome = Runs.reading(text.length, () -> handle.keepDocument(text));
-        if (outcome.status() != Numbers.DONE) {
+    Reading(byte[] text, int profile) {
+        Outcome outcome = Runs.reading(text.length, () -> handle.keepDocument(text, profile));
+        if (outcome.status() != Codes.DONE) {
             handle.free();
         }
         outcome.textOrThrow("", Limits.NONE);

@@ -49,8 +49,8 @@ final class Runs {
     /** Whether a run ended for its own limits, and not for those of the caller. */
     static boolean isShort(Outcome outcome, Limits run, Limits limits) {
         return switch (outcome.status()) {
-            case Numbers.STEPS_USED_UP -> run.steps() != limits.steps();
-            case Numbers.TOO_MANY_BYTES -> run.bytes() != limits.bytes();
+            case Codes.STEPS_USED_UP -> run.steps() != limits.steps();
+            case Codes.TOO_MANY_BYTES -> run.bytes() != limits.bytes();
             default -> false;
         };
     }

@@ -11,17 +11,17 @@ final class SpareHandles {
     private static final int LARGEST_KEPT = 1 << 20;
 
     private final byte[] query;
-    private final Profile profile;
+    private final int profile;
     private final LinkedBlockingDeque<Handle> spare = new LinkedBlockingDeque<>(MOST);
     private volatile boolean isClosed;
 
     /** Reads the query, or throws why it is refused. */
-    SpareHandles(String text, Profile profile) {
+    SpareHandles(String text, int profile) {
         this.query = Texts.encoded(text);
         this.profile = profile;
         Handle first = new Handle();
         Outcome outcome = Runs.reading(query.length, () -> first.keepQuery(query, profile));
-        settle(first, outcome.status() == Numbers.DONE);
+        settle(first, outcome.status() == Codes.DONE);
         outcome.textOrThrow(text, Limits.NONE);
     }
 
@@ -33,7 +33,7 @@ final class SpareHandles {
         Outcome outcome = null;
         try {
             Outcome kept = spared == null ? handle.keepQuery(query, profile) : null;
-            outcome = kept == null || kept.status() == Numbers.DONE ? call.apply(handle) : kept;
+            outcome = kept == null || kept.status() == Codes.DONE ? call.apply(handle) : kept;
             return outcome;
         } finally {
             settle(handle, size <= LARGEST_KEPT && outcome != null && outcome.text().length <= LARGEST_KEPT);
