@@ -58,7 +58,9 @@ test("whole numbers beyond 64 bits", () => {
     const refused = thrown(jp.DocumentError, () => jp.find("$", [0, whole], { numbers: "whole" }));
     assert.deepEqual([refused.kind, refused.path, refused.column], ["NotWhole", "$[1]", 4]);
     assert.equal(refused.reason, "OutOfRange");
-    assert.deepEqual(jp.values("$[?@!=0]", [0, whole]), [whole]);
+    // With an exponent in its text it is a Number where that has the same.
+    const value = whole % 10n ** 30n === 0n ? Number(whole) : whole;
+    assert.deepEqual(jp.values("$[?@!=0]", [0, whole]), [value]);
   }
 });
 

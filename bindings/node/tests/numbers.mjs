@@ -55,7 +55,7 @@ test("decimals are what holds if nothing is said", () => {
 
 test("whole numbers where they are asked for", () => {
   const path = "$['store']['book'][0]['price']";
-  const refused = { name: "DocumentError", kind: "NotWhole", path, reason: "HasFraction", line: 3, column: 105 };
+  const refused = { name: "DocumentError", kind: "NotWhole", path, reason: "HasFraction", line: 3, column: 102 };
   for (const call of [jp.find, jp.findOne, jp.values, jp.paths, jp.exists, jp.findIter]) {
     assert.throws(() => call("$", STORE, WHOLE), refused);
     assert.throws(() => call(jp.compile("$", WHOLE), STORE), refused);
@@ -169,7 +169,9 @@ test("fractions that are Numbers are given back as they are given", () => {
   while (numbers.length < 5000) {
     [0, 4].forEach((at) => bits.setUint32(at, chance.next().value * 2 ** 32));
     const number = bits.getFloat64(0);
-    numbers.push(...(Number.isFinite(number) ? [number] : []), chance.next().value, Math.round(chance.next().value * 1e6) / 100);
+    // One that is whole, and written by digits alone, is a BigInt where it is no safe integer.
+    const isHeld = Number.isFinite(number) && !(Number.isInteger(number) && Math.abs(number) < 1e21);
+    numbers.push(...(isHeld ? [number] : []), chance.next().value, Math.round(chance.next().value * 1e6) / 100);
   }
   const text = JSON.stringify(numbers);
   assert.deepEqual(jp.values("$[*]", text), JSON.parse(text));

@@ -70,9 +70,10 @@ function ways(row) {
     () => (row.document === undefined ? jp.find(query, document, options) : jp.find(query, row.document, options)),
     () => jp.compile(query, options).find(document),
     () => jp.find(jp.compile(query, options), new jp.Document(document, { numbers })),
-    () => new jp.Document(document, { numbers }).find(query, options),
     () => many(query, document, options),
-    ...(row.refused === "Query" ? [canonical, () => jp.check(query, options) ?? ""] : []),
+    ...(row.refused === "Query"
+      ? [canonical, () => jp.check(query, options) ?? ""]
+      : [() => new jp.Document(document, { numbers }).find(query, options)]),
   ];
 }
 
