@@ -5,7 +5,7 @@ import { made, madeButton } from "./elements.mjs";
 import { OneStop } from "./onestop.mjs";
 import { patternWords } from "./patternwords.mjs";
 import { isInExpression } from "./querymode.mjs";
-import { wholeSwitch } from "./wholenumbers.mjs";
+import { decimalsSwitch } from "./wholenumbers.mjs";
 
 // Of such a query alone the engine says nothing, since it is no text.
 const HALF_A_PAIR = "Half of a surrogate pair is no character.";
@@ -130,7 +130,7 @@ export class QueryBox {
     const heading = made("strong", "", `${kind} at ${place}${inCharacters}: `);
     const words = [made("p", "wrong", heading, sentence ?? HALF_A_PAIR)];
     if (kind === "NotWhole") {
-      words.push(made("p", "warned", ...wholeSwitch(this.#takeDecimals), "."));
+      words.push(made("p", "warned", "Or choose ", decimalsSwitch(this.#takeDecimals), "."));
     }
     return suggestion === null ? words : [...words, made("p", "", "Try: ", this.#queryButton(suggestion))];
   }

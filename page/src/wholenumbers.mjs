@@ -40,9 +40,9 @@ function isDecimal(number) {
   return digits === "" || (digits.length <= MOST_DIGITS && Math.abs(power) <= MOST_POWER);
 }
 
-/** That numbers are whole, and the switch by which they are not, which is pressed. */
-export function wholeSwitch(takeDecimals) {
-  return ["Numbers are whole here: choose ", madeButton("link", "Decimals", takeDecimals)];
+/** The switch by which numbers are not only whole ones, to be pressed where it is named. */
+export function decimalsSwitch(takeDecimals) {
+  return madeButton("link", "Decimals", takeDecimals);
 }
 
 /** What to do about a number that is refused for a reason, in a sentence; nothing for other reasons. */
@@ -59,6 +59,6 @@ export function numberWords({ reason, number }, takeDecimals) {
   if (!isWholeWanted) {
     return [made("p", "warned", "Write ", ...write)];
   }
-  const choice = isDecimal(number) ? [...wholeSwitch(takeDecimals), ", or write "] : ["Numbers are whole here: write "];
-  return [made("p", "warned", ...choice, ...write)];
+  const choice = isDecimal(number) ? ["choose ", decimalsSwitch(takeDecimals), ", or "] : [];
+  return [made("p", "warned", "Numbers are whole here: ", ...choice, "write ", ...write)];
 }

@@ -120,8 +120,9 @@ async function linksAndKeepsSwitches() {
     await becomes(() => browser.value("navigator.clipboard.readText()"), link);
     const isWhole = added.n === "whole";
     await becomes(() => countOf("#document-outcome .wrong"), isWhole ? 1 : 0);
+    await browser.value("window.isOld = true");
     await browser.send("Page.reload");
-    await browser.until('document.querySelector("#document-outcome")');
+    await browser.until('!window.isOld && document.querySelector("#document .CodeMirror")');
     await answered();
     assert.equal(await countOf(`[value="${isWhole ? "whole" : "decimal"}"]:checked`), 1);
     assert.equal(await countOf("#document-outcome .wrong"), isWhole ? 1 : 0);

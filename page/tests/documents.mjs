@@ -103,14 +103,15 @@ async function saysWhatToDoAboutNumbers() {
 
 /** What is said of a number, in a document or in a query, has the switch in it. */
 async function choosesDecimals() {
-  for (const [words, outcome] of [
-    [{ q: "$[?@<9]", d: "[8.95]" }, "#document-outcome"],
-    [{ q: "$[?@<9]", d: "8\n[8.95]", l: "1" }, "#document-outcome"],
-    [{ q: "$[?@<9.5]", d: "[8.95]" }, "#query-outcome"],
+  const words = 'Numbers are whole here: choose Decimals, or write 8.95 as the text "8.95".';
+  for (const [asked, outcome, told] of [
+    [{ q: "$[?@<9]", d: "[8.95]" }, "#document-outcome", words],
+    [{ q: "$[?@<9]", d: "8\n[8.95]", l: "1" }, "#document-outcome", words],
+    [{ q: "$[?@<9.5]", d: "[8.95]" }, "#query-outcome", "Or choose Decimals."],
   ]) {
-    await open({ ...words, n: "whole" });
+    await open({ ...asked, n: "whole" });
     assert.equal(await chosenNumbers(), "whole");
-    assert.match(await textOf(`${outcome} .warned`), /^Numbers are whole here: choose Decimals\b/);
+    assert.equal(await textOf(`${outcome} .warned`), told);
     await click(`${outcome} .warned button`);
     await answered();
     assert.equal(await chosenNumbers(), "decimal");
@@ -119,7 +120,7 @@ async function choosesDecimals() {
     assert.deepEqual(await textsOf("#nodes .value"), ["8.95"]);
     await click('[value="whole"]');
     await answered();
-    assert.equal(await countOf(`${outcome} .wrong`), 1);
+    assert.ok((await countOf(`${outcome} .wrong`)) > 0);
   }
 }
 
