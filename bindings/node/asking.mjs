@@ -138,8 +138,9 @@ const BY_LINES =
 
 /** That a query of a profile is asked of a document that is kept with other numbers, and what to do. */
 function otherNumbers(profile) {
-  const [document, query] = numbersOf(profile) === "whole" ? ["decimals", "whole"] : ["whole", "decimals"];
-  return `the numbers of the document are ${document}, and those of the query ${query}: give both the same option 'numbers'`;
+  const query = numbersOf(profile);
+  const document = query === "whole" ? "decimal" : "whole";
+  return `the document is kept with numbers "${document}", and the query has numbers "${query}": give both the same`;
 }
 
 /** Why the bytes are no document, where, and what to do where they look like JSON Lines. */

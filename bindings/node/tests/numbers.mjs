@@ -226,10 +226,9 @@ test("what is no number of JSON, with either kind of numbers", () => {
 
 test("a query with other numbers than the document that is kept", () => {
   const [whole, decimal] = [WHOLE, DECIMAL].map((options) => new jp.Document("[1]", options));
-  const words = "give both the same option 'numbers'";
   for (const [document, options, message] of [
-    [whole, DECIMAL, `the numbers of the document are whole, and those of the query decimals: ${words}`],
-    [decimal, WHOLE, `the numbers of the document are decimals, and those of the query whole: ${words}`],
+    [whole, DECIMAL, 'the document is kept with numbers "whole", and the query has numbers "decimal": give both the same'],
+    [decimal, WHOLE, 'the document is kept with numbers "decimal", and the query has numbers "whole": give both the same'],
   ]) {
     const refused = { name: "RangeError", message };
     const kept = jp.compile("$[0]", { ...options, extended: true });
