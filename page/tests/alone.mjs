@@ -6,7 +6,6 @@
 import { readFileSync } from "node:fs";
 import { Worker } from "node:worker_threads";
 import { gunzipSync } from "node:zlib";
-import { NEW } from "../src/cases.mjs";
 
 const [page, query] = process.argv.slice(2);
 const html = readFileSync(page, "utf8");
@@ -32,7 +31,8 @@ function asked(worker, question) {
 async function answer(bytes) {
   const worker = new Worker(START + part("worker"), { eval: true });
   const module = new WebAssembly.Module(bytes);
-  const { count } = await asked(worker, { kind: "ask", module, document, query, ...NEW });
+  const chosen = { profile: "standard", numbers: "decimal", byLines: false };
+  const { count } = await asked(worker, { kind: "ask", module, document, query, ...chosen });
   const nodes = await asked(worker, { kind: "nodes", order: "nodelist", from: 0, to: count });
   await worker.terminate();
   return Object.values(nodes).map(({ path, value }) => `${path.text}\t${value.text}`);
