@@ -2,7 +2,7 @@
 Python's decimals answers. Among the numbers are some that differ in the last of 17 to 38 digits, some that no double
 tells apart, and some that are beyond each double.
 """
-from plain import TEXTS, Seeded, TooMany, Written, nodelist
+from plain import TEXTS, Seeded, TooMany, Written, json_text, nodelist, path_text, query_text, value_text
 
 # A coefficient and an exponent: near each other, near whole numbers, at the ends of what a whole number and a double
 # have room for, and of what can be held.
@@ -48,3 +48,11 @@ class SeededDecimals(Seeded):
                 return query, document, nodelist(query, None, ((), document))
             except TooMany:
                 continue
+
+
+def row_of(query, document, nodes):
+    """The row, as bindings/rows.jsonl has them, of a query that selects these nodes."""
+    text = query_text(query)
+    return {"from": "plain decimals", "profile": "ExtendedDecimal" if "distinct(" in text else "Decimal", "query": text,
+            "document": json_text(document), "paths": [path_text(location) for location, _ in nodes],
+            "values": [value_text(value) for _, value in nodes]}

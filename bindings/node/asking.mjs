@@ -6,8 +6,9 @@ import { ALL, Engine, KeptDocument, UNLIMITED } from "./engine.mjs";
 import { BeyondLimit, DocumentError, QueryError, StepsUsedUp, TooManyBytes, TooManyNodes } from "./errors.mjs";
 import { NO_MEMORY_TEXT } from "./instance.mjs";
 import {
-  DOCUMENT_REFUSED, DONE, NO_MEMORY, QUERY_REFUSED, STEPS_USED_UP, TOO_MANY_BYTES, TOO_MANY_NODES,
+  DOCUMENT_REFUSED, DONE, NO_MEMORY, OTHER_NUMBERS, QUERY_REFUSED, STEPS_USED_UP, TOO_MANY_BYTES, TOO_MANY_NODES,
 } from "./numbers.mjs";
+import { numbersOf } from "./options.mjs";
 import { Cursor } from "./pages.mjs";
 import { bytesOf, textOf } from "./texts.mjs";
 
@@ -25,11 +26,12 @@ export function start(module) {
   engine = new Engine(module);
 }
 
-/** What the engine `asks` keeps as `kept`, the document that these bytes are. */
-export function keptBy(bytes) {
-  const given = { asks: bytes.length > SMALL ? new Engine(compiled) : engine, kept: new KeptDocument(bytes) };
-  told(given.asks.keep(given.kept), null, null, bytes);
-  return given;
+/** What the engine `asks` keeps as `kept`, the document that these bytes are with the numbers of a profile. */
+export function keptBy(bytes, profile) {
+  const kept = new KeptDocument(bytes, profile);
+  const asks = bytes.length > SMALL ? new Engine(compiled) : engine;
+  told(asks.keep(kept), null, profile, bytes);
+  return { asks, kept };
 }
 
 /** The lines of what an engine is asked of bytes, or of a document that it keeps. */
@@ -69,14 +71,14 @@ function linesOf(outcome, { asked, text, most }, document) {
   return told(outcome, text, asked.profile, document, most).split("\n").slice(0, -1);
 }
 
-/** The lines of each question, or its error, where `given` tells who keeps the document. */
+/** The lines of each question, or its error, where `given` tells who keeps the document for a profile. */
 export function answersOf(questions, form, given) {
   return questions.map((question) => {
     try {
       const { asked, text } = question;
       // A document that only refused queries are asked of is not read.
       told(engine.check(asked.bytes, asked.profile), text, asked.profile);
-      const { asks, kept } = given();
+      const { asks, kept } = given(asked.profile);
       return linesBy(asks, question, kept, form, ALL);
     } catch (fault) {
       if (fault instanceof QueryError || fault instanceof BeyondLimit) return fault;
@@ -85,13 +87,20 @@ export function answersOf(questions, form, given) {
   });
 }
 
-/** The same of a document that is read once, and not kept. */
+/** The same of a document that is read once with the numbers of each question, and not kept. */
 export function answersOfBytes(questions, form, bytes) {
-  let given = null;
+  const read = new Map();
+  const given = (profile) => {
+    const numbers = numbersOf(profile);
+    if (!read.has(numbers)) {
+      read.set(numbers, keptBy(bytes, profile));
+    }
+    return read.get(numbers);
+  };
   try {
-    return answersOf(questions, form, () => (given ??= keptBy(bytes)));
+    return answersOf(questions, form, given);
   } finally {
-    given?.asks.forget(given.kept);
+    read.forEach(({ asks, kept }) => asks.forget(kept));
   }
 }
 
@@ -108,7 +117,9 @@ export function told({ status, kind, place, steps, text: written }, query, profi
     case QUERY_REFUSED:
       throw new QueryError(engine.kindName(status, kind), place, query, engine.explain(bytesOf(query), profile));
     case DOCUMENT_REFUSED:
-      throw new DocumentError(engine.kindName(status, kind), text || null, whyRefused(document));
+      throw new DocumentError(engine.kindName(status, kind), text || null, whyRefused(document, profile));
+    case OTHER_NUMBERS:
+      throw new RangeError(otherNumbers(profile));
     case NO_MEMORY:
       throw new RangeError(NO_MEMORY_TEXT);
     case STEPS_USED_UP:
@@ -125,9 +136,16 @@ export function told({ status, kind, place, steps, text: written }, query, profi
 const BY_LINES =
   "Where each line is a document (JSON Lines), ask one after another: for await (const line of readline) query.find(line)";
 
+/** That a query of a profile is asked of a document that is kept with other numbers, and what to do. */
+function otherNumbers(profile) {
+  const query = numbersOf(profile);
+  const document = query === "whole" ? "decimal" : "whole";
+  return `the document is kept with numbers "${document}", and the query has numbers "${query}": give both the same`;
+}
+
 /** Why the bytes are no document, where, and what to do where they look like JSON Lines. */
-function whyRefused(bytes) {
-  const why = engine.explainDocument(bytes);
+function whyRefused(bytes, profile) {
+  const why = engine.explainDocument(bytes, profile);
   const isOfLines = why.reason === "AfterValue" && /^\s*\S[^\n]*\n[ \t\r\n]*$/.test(textOf(bytes.slice(0, why.offset)));
   return { ...why, suggestion: isOfLines ? BY_LINES : null };
 }

@@ -2,8 +2,8 @@
 import { answersOf, answersOfBytes, eachLineBy, engine, keptBy, linesBy, told } from "./asking.mjs";
 import { ALL, KeptQuery } from "./engine.mjs";
 import { DocumentError, INSPECTED, QueryError, StepsUsedUp, TooManyBytes, TooManyNodes, errorOf } from "./errors.mjs";
-import { BOTH, EXTENDED, PATHS, STANDARD, VALUES } from "./numbers.mjs";
-import { LIMITS, mostOf, optionsRead, typeOf } from "./options.mjs";
+import { BOTH, PATHS, VALUES } from "./numbers.mjs";
+import { LIMITS, NUMBERS, isExtended, mostOf, numbersOf, optionsRead, typeOf } from "./options.mjs";
 import { pointerOf, stepsOf } from "./paths.mjs";
 import { bytesOf } from "./texts.mjs";
 import { bytesGiven, documentBytes, parsed } from "./values.mjs";
@@ -59,7 +59,11 @@ export class Query {
   }
 
   get extended() {
-    return this.#question.asked.profile === EXTENDED;
+    return isExtended(this.#question.asked.profile);
+  }
+
+  get numbers() {
+    return numbersOf(this.#question.asked.profile);
   }
 
   get limit() {
@@ -115,8 +119,13 @@ export class Document {
     givenOf = (document) => document.#given;
   }
 
-  constructor(document) {
-    this.#given = keptBy(ownBytes(document));
+  constructor(document, options) {
+    const { profile } = optionsRead(options, ["numbers"]);
+    this.#given = keptBy(ownBytes(document), profile);
+  }
+
+  get numbers() {
+    return numbersOf(this.#given.kept.profile);
   }
 
   find(query, options) {
@@ -166,7 +175,7 @@ export function findIter(query, document, options) {
   }
   const { asked, text } = question;
   told(engine.check(asked.bytes, asked.profile), text, asked.profile);
-  return matchesOf(eachLineBy(keptBy(ownBytes(document)), true, question, BOTH));
+  return matchesOf(eachLineBy(keptBy(ownBytes(document), asked.profile), true, question, BOTH));
 }
 
 export function findMany(queries, document, options) {
@@ -175,7 +184,7 @@ export function findMany(queries, document, options) {
   }
   optionsRead(options);
   // What is given may call on its own, so all of it is read first.
-  const questions = Array.from(queries, (query) => questionOf(query, options));
+  const questions = Array.from(queries, (query) => questionOf(query, document, options));
   const answers =
     document instanceof Document
       ? answersOf(questions, BOTH, () => givenOf(document))
@@ -221,16 +230,20 @@ function matchOf(line) {
 }
 
 // The text that was asked last, which is read once where it is asked again.
-let lastAsked = { asked: { bytes: bytesOf("$"), profile: STANDARD }, text: "$" };
+let lastAsked = { asked: { bytes: bytesOf("$"), profile: optionsRead().profile }, text: "$" };
 
-/** What is asked: the query for the engine, its text, and the limits, of which these may be given. */
-function questionOf(query, options, limits = EACH_LIMIT) {
+/**
+ * What is asked of a document: the query for the engine, its text, and the limits, of which these may be given. A text is
+ * read with the numbers of a document that is kept, unless others are asked for.
+ */
+function questionOf(query, document, options, limits = EACH_LIMIT) {
   if (query instanceof Query) {
     const { most } = optionsRead(options, limits);
     const own = ownQuestionOf(query);
     return options === undefined ? own : { ...own, most: mostOf(most, own.most) };
   }
-  const { profile, most } = optionsRead(options, ["extended", ...limits]);
+  const usual = document instanceof Document ? document.numbers : NUMBERS;
+  const { profile, most } = optionsRead(options, ["extended", "numbers", ...limits], usual);
   if (query !== lastAsked.text || profile !== lastAsked.asked.profile) {
     lastAsked = { asked: { bytes: queryBytes(query), profile }, text: query };
   }
@@ -241,7 +254,7 @@ function questionOfBoth(query, document, options, limits = EACH_LIMIT) {
   if (isInWrongOrder(query, document)) {
     throw new TypeError("the query comes first, and the document after it");
   }
-  return questionOf(query, options, limits);
+  return questionOf(query, document, options, limits);
 }
 
 function linesOf(query, document, options, form, span = ALL) {

@@ -5,7 +5,7 @@
 
 import { Instance, NO_MEMORY_TEXT } from "./instance.mjs";
 import {
-  DOCUMENT_REASON, DOCUMENT_SENTENCE, DONE, NO_LIMIT, NO_MEMORY, SENTENCE, STANDARD, SUGGESTION,
+  DOCUMENT_REASON, DOCUMENT_SENTENCE, DONE, NO_LIMIT, NO_MEMORY, SENTENCE, SUGGESTION,
 } from "./numbers.mjs";
 import { textOf } from "./texts.mjs";
 
@@ -29,10 +29,14 @@ export class KeptQuery {
   }
 }
 
-/** A document's bytes, which are not to change. An engine that is asked of it reads it once and keeps it likewise. */
+/**
+ * A document's bytes, which are not to change, and a profile with whose numbers it is read. An engine that is asked of it
+ * reads it once and keeps it likewise.
+ */
 export class KeptDocument {
-  constructor(bytes) {
+  constructor(bytes, profile) {
     this.bytes = bytes;
+    this.profile = profile;
   }
 }
 
@@ -136,23 +140,23 @@ export class Engine {
   }
 
   /**
-   * Why a document is refused, and where: `offset`, the byte; `line` and `column`, from 1; `reason`, the name of
-   * the reason; and `sentence`.
+   * Why a document is refused where it is read with the numbers of a profile, and where: `offset`, the byte; `line` and
+   * `column`, from 1; `reason`, the name of the reason; and `sentence`.
    */
-  explainDocument(document) {
-    const { place, text: reason } = this.#partOfMisreading(document, DOCUMENT_REASON);
+  explainDocument(document, profile) {
+    const { place, text: reason } = this.#partOfMisreading(document, profile, DOCUMENT_REASON);
     // The sentence goes by the reason alone, so it is asked for once.
     if (!sentencesOf.has(reason)) {
-      sentencesOf.set(reason, this.#partOfMisreading(document, DOCUMENT_SENTENCE).text);
+      sentencesOf.set(reason, this.#partOfMisreading(document, profile, DOCUMENT_SENTENCE).text);
     }
     return { ...place, reason, sentence: sentencesOf.get(reason) };
   }
 
-  #partOfMisreading(document, part) {
+  #partOfMisreading(document, profile, part) {
     let place;
     const { status, text } = this.#run((instance) => {
       const call = (bytes, told) =>
-        instance.exports.jp_explain_document(...bytes, STANDARD, part, instance.placeAddress, ...told);
+        instance.exports.jp_explain_document(...bytes, profile, part, instance.placeAddress, ...told);
       const outcome = instance.write([document], call);
       place = instance.placeTold();
       return outcome;
@@ -254,8 +258,8 @@ function readQuery(instance, { bytes, profile }, handle) {
   );
 }
 
-function readDocument(instance, { bytes }, handle) {
+function readDocument(instance, { bytes, profile }, handle) {
   return instance.write([bytes], (document, told) =>
-    instance.exports.jp_document_new(...document, STANDARD, handle, ...told),
+    instance.exports.jp_document_new(...document, profile, handle, ...told),
   );
 }

@@ -2,13 +2,17 @@
 
 /**
  * A document that is kept, JSON text, as a string or as bytes, or any other value, which `JSON.stringify` writes
- * first; a BigInt in it is a whole number. A string is JSON text: the JSON text of the string `a` is `'"a"'`. What
+ * first; a BigInt in it is a whole number, and a fraction the decimal that is written. A string is JSON text: the JSON text of the string `a` is `'"a"'`. What
  * JSON has not, as a Map, a function or NaN, is refused, and so is a Number that is whole and no safe integer, in whose
  * place a BigInt is given. What is `unknown` to TypeScript may be given: whether it is a document is seen when it is read.
  */
 export type DocumentLike<T = unknown> = T extends symbol | undefined | ((...words: never) => unknown) ? never : T;
 
-/** A JSON value. A whole number that is no safe integer is a BigInt. */
+/**
+ * A JSON value. A number is the Number that has its text, as 8.95 and 6.02e+23; but of whole ones without an exponent
+ * only safe integers are Numbers. Any other whole one is a BigInt, and what is left, as 0.10000000000000000001 or a whole
+ * number of more than 1,000 digits, is its exact text. `Match.text` always has the exact text.
+ */
 export type Value = string | number | bigint | boolean | null | Value[] | { [name: string]: Value };
 
 /** The limit of what gives nodes one after another. */
@@ -31,8 +35,21 @@ export interface Limit extends StepLimit {
   maxBytes?: number | bigint | null;
 }
 
+/**
+ * Which numbers queries and documents have: exact decimals of at most 38 digits, which is what they have if nothing is
+ * said, or whole numbers of 64 bits alone, where a fraction anywhere in a document is refused.
+ */
+export type Numbers = "decimal" | "whole";
+
+/** What may be said beside a document that is kept. */
+export interface DocumentOptions {
+  numbers?: Numbers;
+}
+
 /** What may be said beside a query. Of a `Query` only limits. Another name is refused. */
 export interface Options extends Limit {
+  /** Which numbers the query has, and the document that it is asked of; else those of a `Document`, or decimals. */
+  numbers?: Numbers;
   /** Lets a query call `distinct`, which RFC 9535 does not have. */
   extended?: boolean;
 }
@@ -63,6 +80,7 @@ export class Query {
   constructor(text: string, options?: Options);
   readonly text: string;
   readonly extended: boolean;
+  readonly numbers: Numbers;
   readonly limit: number | bigint | undefined;
   readonly maxNodes: number | bigint | undefined;
   readonly maxBytes: number | bigint | undefined;
@@ -76,11 +94,13 @@ export class Query {
 }
 
 /**
- * A document that is read once, and asked by any number of queries. What it was made of may change afterwards. Its
- * calls are those below. Throws `DocumentError` where it is refused.
+ * A document that is read once, and asked by any number of queries with its numbers. What it was made of may change
+ * afterwards. Its calls are those below; a query with other numbers throws `RangeError`. Throws `DocumentError` where it is
+ * refused.
  */
 export class Document {
-  constructor(document: unknown);
+  constructor(document: unknown, options?: DocumentOptions);
+  readonly numbers: Numbers;
   find(query: string | Query, options?: Options): Match[];
   findOne(query: string | Query, options?: Options): Match | null;
   findIter(query: string | Query, options?: StepOptions): Generator<Match, void, undefined>;
@@ -126,7 +146,8 @@ export class DocumentError extends Error {
     | "NumberRange"
     | "DocumentTooLarge";
   /**
-   * Of `NotWhole`, the normalized path of the first number that is not a whole one of 64 bits. Of a value with NaN, an
+   * Of `NotWhole`, where numbers are whole, the normalized path of the first number that is not a whole one of 64 bits; of
+   * `NumberRange` that of the first that is too much for a decimal. Of a value with NaN, an
    * infinity or a Number that is whole and no safe integer, the path of the first of these, and of what follows the
    * sentence alone.
    */
@@ -181,8 +202,8 @@ export function parse(query: string, options?: Options): Query;
 /**
  * The nodes that the query selects, in the order of RFC 9535; one that is selected twice stands there
  * twice. Throws `QueryError` or `DocumentError`, the query's first, `StepsUsedUp`, `TooManyNodes` or `TooManyBytes`
- * where there is a limit and the query goes beyond it, `RangeError` where memory ran out, and `TypeError` where
- * something else is given than belongs there.
+ * where there is a limit and the query goes beyond it, `RangeError` where memory ran out or a `Document` has other
+ * numbers than the query, and `TypeError` where something else is given than belongs there.
  */
 export function find<T>(query: string | Query, document: DocumentLike<T>, options?: Options): Match[];
 
@@ -200,7 +221,7 @@ export function findIter<T>(
 ): Generator<Match, void, undefined>;
 
 /**
- * What `find` gives for each query, over one document that is read once, each with the whole limits. A query that is
+ * What `find` gives for each query, over one document that is read once with its numbers, each with the whole limits. A query that is
  * refused, or goes beyond a limit, has its error in the list, and ends nothing. Throws `DocumentError` where a query
  * that is accepted is asked of what is no document.
  */

@@ -2,7 +2,7 @@
  * JSONPath queries (RFC 9535) over JSON documents, by the proved engine jp, in Node.
  *
  *     import * as jp from "jsonpath-jp";
- *     jp.values("$..price", '{"a":[{"price":9},{"price":12}]}');    // [ 9, 12 ]
+ *     jp.values("$..price", '{"a":[{"price":8.95},{"price":12}]}'); // [ 8.95, 12 ]
  *     jp.paths("$.a[-1]", { a: [1, 2] });                           // [ "$['a'][1]" ]
  *
  * jp.d.mts has the types, and what each call gives.

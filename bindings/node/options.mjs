@@ -1,5 +1,5 @@
 /** What callers give beside documents, checked. */
-import { EXTENDED, NO_LIMIT, STANDARD } from "./numbers.mjs";
+import { DECIMAL, EXTENDED, EXTENDED_DECIMAL, NO_LIMIT, STANDARD } from "./numbers.mjs";
 
 /** The type of a value, by which an error tells of it. */
 export function typeOf(value) {
@@ -13,13 +13,29 @@ export function typeOf(value) {
 /** The options that are limits, each with the member of `most` that it is and what is counted. */
 export const LIMITS = { limit: "steps", maxNodes: "nodes", maxBytes: "bytes" };
 
-const NAMES = ["extended", ...Object.keys(LIMITS)];
+/** Which numbers queries and documents have, unless others are asked for. */
+export const NUMBERS = "decimal";
+
+// The profiles by the numbers that they have, the standard one and the extended one.
+const PROFILES = { decimal: [DECIMAL, EXTENDED_DECIMAL], whole: [STANDARD, EXTENDED] };
+
+const NAMES = ["extended", "numbers", ...Object.keys(LIMITS)];
+
+/** Which numbers a profile has. */
+export function numbersOf(profile) {
+  return Object.keys(PROFILES).find((numbers) => PROFILES[numbers].includes(profile));
+}
+
+/** Whether a profile has `distinct` too. */
+export function isExtended(profile) {
+  return Object.values(PROFILES).some(([, extended]) => extended === profile);
+}
 
 /**
- * What options say, of which only some may be given: the `profile`, and the `most` steps, nodes and bytes, BigInts of
- * which 0 is any number.
+ * What options say, of which only some may be given: the `profile`, which has the `usual` numbers unless they name
+ * others, and the `most` steps, nodes and bytes, BigInts of which 0 is any number.
  */
-export function optionsRead(options, names = NAMES) {
+export function optionsRead(options, names = NAMES, usual = NUMBERS) {
   if (options !== undefined && (typeof options !== "object" || Array.isArray(options))) {
     throw new TypeError(`options are an object, and not of type ${typeOf(options)}`);
   }
@@ -32,16 +48,25 @@ export function optionsRead(options, names = NAMES) {
   if (typeof extended !== "boolean") {
     throw new TypeError(`the option 'extended' is true or false, and not of type ${typeOf(extended)}`);
   }
+  const numbers = options?.numbers ?? usual;
+  if (typeof numbers !== "string" || !Object.hasOwn(PROFILES, numbers)) {
+    throw new TypeError(`the option 'numbers' is "decimal" or "whole", and not ${toldOf(numbers)}`);
+  }
   const most = {};
   for (const [name, counted] of Object.entries(LIMITS)) {
     most[counted] = limitOf(options?.[name] ?? null, name, counted);
   }
-  return { profile: extended ? EXTENDED : STANDARD, most };
+  return { profile: PROFILES[numbers][Number(extended)], most };
 }
 
 /** The limits of a call, or where it has none of a kind those of the query. */
 export function mostOf({ steps, nodes, bytes }, own) {
   return { steps: steps || own.steps, nodes: nodes || own.nodes, bytes: bytes || own.bytes };
+}
+
+/** A text as it is, and of another value its type. */
+function toldOf(value) {
+  return typeof value === "string" ? JSON.stringify(value) : `of type ${typeOf(value)}`;
 }
 
 function limitOf(limit, name, counted) {

@@ -4,14 +4,21 @@ import { typeOf } from "./options.mjs";
 import { pathOf } from "./paths.mjs";
 import { bytesOf } from "./texts.mjs";
 
-const LONG_NUMBER = /\d{16}/;
-// A text, with a colon after it where it is a member's name, or a number beyond what a Number holds.
-const TEXT_OR_LONG_NUMBER = /"[^"\\]*(?:\\.[^"\\]*)*":?|-?\d{16,}/g;
+// With fewer digits, and two in an exponent, each number is a Number whose text is its own.
+const LONG_NUMBER = /\d(?:\.?\d){15}|\de[-+]\d{3}/;
+// A text, with a colon after it where it is a member's name, or such a number. One digit stands before an exponent's point.
+const TEXT_OR_LONG_NUMBER =
+  /"[^"\\]*(?:\\.[^"\\]*)*":?|-?\d(?:\.?\d){15,}(?:e[-+]\d+)?|-?\d(?:\.\d+)?e[-+]\d{3,}/g;
+const DIGITS = /^-?\d+$/;
+const WITH_EXPONENT = /^(-?\d)(?:\.(\d+))?e\+(\d+)$/;
+// Of a whole number with more digits the text is given, which takes less memory by far.
+const MOST_DIGITS = 1000;
 
 /**
- * The value of a compact JSON text, whose numbers are whole: one that is no safe integer is a BigInt.
- * Where there may be such numbers, each value that is a text is marked by a letter before it is read, so
- * that a number can be read as a text with another letter.
+ * The value of a compact JSON text. A number is the Number of the same text, but a whole one that is written by digits
+ * alone has to be a safe integer; else a whole one is a BigInt, and any other its text. Where there may be such numbers,
+ * each value that is a text is marked by a letter before it is read, so that a number can be read as a text with another
+ * letter.
  */
 export function parsed(text) {
   if (!LONG_NUMBER.test(text)) {
@@ -31,8 +38,21 @@ export function parsed(text) {
   });
 }
 
-function numberOf(digits) {
-  return Number.isSafeInteger(Number(digits)) ? Number(digits) : BigInt(digits);
+/** The value of a number's text, which is written as by Number.prototype.toString (RFC 8785 section 3.2.2.3). */
+function numberOf(text) {
+  const number = Number(text);
+  const isHeld = DIGITS.test(text) ? Number.isSafeInteger(number) : String(number) === text;
+  return isHeld ? number : (wholeOf(text) ?? text);
+}
+
+/** The BigInt of a whole number's text; null of any other, and of one with too many digits. */
+function wholeOf(text) {
+  if (DIGITS.test(text)) {
+    return BigInt(text);
+  }
+  const [, first, others = "", exponent] = text.match(WITH_EXPONENT) ?? [];
+  const zeros = Number(exponent) - others.length;
+  return zeros >= 0 && Number(exponent) < MOST_DIGITS ? BigInt(first + others + "0".repeat(zeros)) : null;
 }
 
 /** The bytes that are given as a document, which are the caller's own; null of anything else. */

@@ -20,7 +20,7 @@ export function refusal(engine, { status, kind, place, text }, query, profile, b
     case QUERY_REFUSED:
       return { query: { kind: engine.kindName(status, kind), place, ...engine.explain(query, profile) } };
     case DOCUMENT_REFUSED:
-      return { document: { kind: engine.kindName(status, kind), path, ...whereRefused(engine, bytes) } };
+      return { document: { kind: engine.kindName(status, kind), path, ...whereRefused(engine, profile, bytes) } };
     case NO_MEMORY:
       return { fault: NO_MEMORY_HERE };
     default:
@@ -29,8 +29,8 @@ export function refusal(engine, { status, kind, place, text }, query, profile, b
 }
 
 /** Where a document is refused and why, and the number that stands there, if any. */
-function whereRefused(engine, bytes) {
-  const why = engine.explainDocument(bytes);
+function whereRefused(engine, profile, bytes) {
+  const why = engine.explainDocument(bytes, profile);
   const here = String.fromCharCode(...bytes.subarray(why.offset, why.offset + LONGEST_NUMBER));
   return { ...why, number: here.match(NUMBER)?.[0] };
 }

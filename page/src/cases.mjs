@@ -5,14 +5,20 @@ export const LONGEST_IN_LINK = 20_000;
 const LONGEST_KEPT = 2_000_000;
 const MOST_KEPT_BACK = 20;
 
+/** What a new page has chosen. */
+export const NEW = { profile: "standard", numbers: "decimal", byLines: false };
+
 /** A case as the fragment of an address. What a new page has is left out, and a document that is too long. */
-export function fragmentOf({ query, document: text, profile, byLines }) {
+export function fragmentOf({ query, document: text, profile, numbers, byLines }) {
   const words = new URLSearchParams({ q: query });
   if (text.length <= LONGEST_IN_LINK) {
     words.set("d", text);
   }
   if (profile === "extended") {
     words.set("p", profile);
+  }
+  if (numbers === "whole") {
+    words.set("n", numbers);
   }
   if (byLines) {
     words.set("l", "1");
@@ -27,7 +33,8 @@ export function caseIn(fragment) {
     return null;
   }
   const profile = words.get("p") === "extended" ? "extended" : "standard";
-  return { query: words.get("q") ?? "$", document: words.get("d"), profile, byLines: words.get("l") === "1" };
+  const numbers = words.get("n") === "whole" ? "whole" : "decimal";
+  return { query: words.get("q") ?? "$", document: words.get("d"), profile, numbers, byLines: words.get("l") === "1" };
 }
 
 /** Keeps a case with this entry of the tab's history, where a reload finds it, and takes any out of the address. */
@@ -45,9 +52,14 @@ export function keptInTab() {
   return history.state?.kept ?? null;
 }
 
+/** Whether two cases ask the same query in the same way. */
+export function isSameQuery(one, other) {
+  return ["query", "profile", "numbers"].every((name) => one[name] === other[name]);
+}
+
 /** Whether two cases are the same. */
 export function isSame(one, other) {
-  return ["query", "document", "profile", "byLines"].every((name) => one[name] === other[name]);
+  return isSameQuery(one, other) && ["document", "byLines"].every((name) => one[name] === other[name]);
 }
 
 /** What was here before something else was put in its place: it comes back in a circle, so nothing is lost. */

@@ -40,17 +40,22 @@ export class DocumentBox {
   #editor;
   #parts;
   #replace;
+  #takeDecimals;
   #marks = [];
   #long = null;
   #start = 0;
   /** Called where another part of a long document is shown. */
   partShown = () => {};
 
-  /** `parts` are the elements around the editor; `replace` takes a document that comes in place of this one. */
-  constructor(editor, parts, replace) {
+  /**
+   * `parts` are the elements around the editor; `replace` takes a document that comes in place of this one, and
+   * `takeDecimals` chooses decimals.
+   */
+  constructor(editor, parts, replace, takeDecimals) {
     this.#editor = editor;
     this.#parts = parts;
     this.#replace = replace;
+    this.#takeDecimals = takeDecimals;
     editor.on("beforeChange", (_, change) => this.#takeLong(change));
     editor.on("drop", (_, event) => this.#drop(event));
     editor.on("paste", (_, event) => this.#replaceLong(event));
@@ -188,8 +193,9 @@ export class DocumentBox {
     this.#parts.stepping.hidden = Boolean(refused);
     this.#parts.switch.classList.toggle("offered", Boolean(looksLikeLines));
     this.#mark(refused ? [refused] : lines);
-    const ofDocument = refused ? documentRefusal(refused, looksLikeLines, go, readByLines) : [];
-    const ofLines = refusedCount > 0 ? lineRefusals(answer, readByLines) : [];
+    const calls = { go, readByLines, takeDecimals: this.#takeDecimals };
+    const ofDocument = refused ? documentRefusal(refused, looksLikeLines, calls) : [];
+    const ofLines = refusedCount > 0 ? lineRefusals(answer, calls) : [];
     this.#parts.outcome.replaceChildren(...ofDocument, ...ofLines);
   }
 }

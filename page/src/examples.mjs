@@ -1,21 +1,20 @@
-/** Queries over documents, by the sections of RFC 9535 whose tables have them; numbers are whole here. */
+/** Queries over documents, by the sections of RFC 9535 whose tables have them. */
 
-/** The document of section 1.5, with the prices of its books. */
-function bookStore(first, second, third, fourth) {
-  return `{
+// The document of section 1.5 (Figure 1).
+const BOOK_STORE = `{
   "store": {
     "book": [
-      { "category": "reference", "price": ${first},
+      { "category": "reference", "price": 8.95,
         "author": "Nigel Rees",
         "title": "Sayings of the Century" },
-      { "category": "fiction", "price": ${second},
+      { "category": "fiction", "price": 12.99,
         "author": "Evelyn Waugh",
         "title": "Sword of Honour" },
-      { "category": "fiction", "price": ${third},
+      { "category": "fiction", "price": 8.99,
         "author": "Herman Melville",
         "title": "Moby Dick",
         "isbn": "0-553-21311-3" },
-      { "category": "fiction", "price": ${fourth},
+      { "category": "fiction", "price": 22.99,
         "author": "J. R. R. Tolkien",
         "title": "The Lord of the Rings",
         "isbn": "0-395-19395-8" }
@@ -23,7 +22,6 @@ function bookStore(first, second, third, fourth) {
     "bicycle": { "color": "red", "price": 399 }
   }
 }`;
-}
 
 const LETTERS = '["a", "b", "c", "d", "e", "f", "g"]';
 
@@ -40,11 +38,11 @@ const PEOPLE = `[
   { "name": "Zoë", "born": "1901-01-01", "color": "red" }
 ]`;
 
-/** Each with a title, a document and queries; `profile` is of all of its queries. */
+/** Each with a title, a document and queries; `profile` and `numbers` are of all of its queries. */
 export const EXAMPLES = [
   {
     title: "1.5 A book store",
-    document: bookStore(8, 12, 8, 22),
+    document: BOOK_STORE,
     queries: [
       "$..book[?@.price<10].title",
       "$.store.book[*].author",
@@ -104,12 +102,13 @@ export const EXAMPLES = [
   {
     title: "Refused queries",
     document: FILTERED,
-    queries: ["$.a[01]", "$['é😀'][01]", "$.a[?@>3.5]", "$[?@.*==1]", "$[?foo(@)]", "$.a[?(@.b"],
+    queries: ["$.a[01]", "$['é😀'][01]", "$.a[?@>.5]", "$[?@.*==1]", "$[?foo(@)]", "$.a[?(@.b"],
   },
   {
-    title: "A refused document: the book store with the prices of RFC 9535",
-    document: bookStore("8.95", "12.99", "8.99", "22.99"),
-    queries: ["$..book[?@.price<10].title"],
+    title: "Whole numbers alone, by which these prices are refused",
+    document: BOOK_STORE,
+    numbers: "whole",
+    queries: ["$..book[?@.price<10].title", "$..book[?@.price<8.99].title"],
   },
   {
     title: "Beyond the standard",

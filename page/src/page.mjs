@@ -1,6 +1,6 @@
 /** The page: what is asked, and what is shown of the answers. */
 import { Asker } from "./asker.mjs";
-import { Before, caseIn, isSame, keepInTab, keptInTab } from "./cases.mjs";
+import { Before, NEW, caseIn, isSame, isSameQuery, keepInTab, keptInTab } from "./cases.mjs";
 import { DocumentBox } from "./documents.mjs";
 import { documentEditor, queryEditor } from "./editors.mjs";
 import { byId, calmed, made } from "./elements.mjs";
@@ -24,10 +24,18 @@ const NOTICE = 300;
 // In lines: of no longer document all is drawn to be printed.
 const MOST_PRINTED = 5000;
 const [FIRST] = EXAMPLES;
-const FIRST_CASE = { query: FIRST.queries[0], document: FIRST.document, profile: "standard", byLines: false };
+const FIRST_CASE = { ...NEW, query: FIRST.queries[0], document: FIRST.document };
+// What is chosen of these stands with a query and a document.
+const CHOICES = ["profile", "numbers"];
 
 function chosen(name) {
   return document.querySelector(`input[name="${name}"]:checked`).value;
+}
+
+function choose(name, value) {
+  const input = document.querySelector(`input[name="${name}"][value="${value}"]`);
+  input.checked = true;
+  return input;
 }
 
 /** The page while the engine runs. */
@@ -56,11 +64,12 @@ class Page {
     this.#asker = new Asker(module, worker, (answer) => this.#show(answer));
     const typed = queryEditor(() => this.#run());
     this.#drawn = documentEditor();
-    this.#query = new QueryBox(typed, byId("query-outcome"), byId("query-patterns"));
+    const takeDecimals = () => this.#takeDecimals();
+    this.#query = new QueryBox(typed, byId("query-outcome"), byId("query-patterns"), takeDecimals);
     const [long, earlier, later, stepping] = ["long", "earlier", "later", "stepping"].map(byId);
     const [outcome, lines] = ["document-outcome", "lines"].map(byId);
     const parts = { long, earlier, later, stepping, outcome, switch: lines.parentElement };
-    this.#document = new DocumentBox(this.#drawn, parts, (it) => this.#replace(it));
+    this.#document = new DocumentBox(this.#drawn, parts, (it) => this.#replace(it), takeDecimals);
     this.#list = new NodeList(byId("nodes"), byId("windows"), {
       fetch: (from, to) => this.#asker.about("nodes", { from, to, order: byId("order").value }),
       pick: (place) => this.#selection.goTo(place),
@@ -89,15 +98,16 @@ class Page {
 
   #case() {
     const { text } = this.#document;
-    return { query: this.#query.text, document: text, profile: chosen("profile"), byLines: byId("lines").checked };
+    const choices = Object.fromEntries(CHOICES.map((name) => [name, chosen(name)]));
+    return { query: this.#query.text, document: text, ...choices, byLines: byId("lines").checked };
   }
 
-  #put({ query, document: text, profile, byLines }) {
+  #put({ query, document: text, byLines, ...choices }) {
     this.#query.put(query);
     this.#read = null;
     this.#selection.clear();
     this.#document.put(text);
-    document.querySelector(`input[name="profile"][value="${profile}"]`).checked = true;
+    CHOICES.forEach((name) => choose(name, choices[name]));
     byId("lines").checked = byLines;
     byId("back").disabled = this.#before.isEmpty;
   }
@@ -121,6 +131,12 @@ class Page {
     tell("Brought back.");
     this.#ask();
     this.#keepSoon();
+  }
+
+  /** Chooses decimals, where a number is refused since it is not whole. */
+  #takeDecimals() {
+    choose("numbers", "decimal").focus();
+    this.#changed();
   }
 
   #changed() {
@@ -168,20 +184,19 @@ class Page {
     this.#setBusy(true);
     this.#isAsking = true;
     this.#noticed = setTimeout(() => this.#showWorking(), NOTICE);
-    if (this.#read?.query === it.query && this.#read.profile === it.profile) {
+    if (this.#read !== null && isSameQuery(this.#read, it)) {
       this.#goOn(this.#read.told);
     } else {
-      this.#reader.read(it.query, it.profile);
+      this.#reader.read(it);
     }
   }
 
   /** Shows what is told of a query, unless another one is asked now, and asks for its nodes unless it was stopped. */
-  #showRead(told, { query, profile }) {
-    const now = this.#asked ?? this.#case();
-    if (now.query !== query || now.profile !== profile) {
+  #showRead(told, by) {
+    if (!isSameQuery(this.#asked ?? this.#case(), by)) {
       return;
     }
-    this.#read = { query, profile, told };
+    this.#read = { ...by, told };
     this.#query.show(told);
     byId("version").textContent = told.version ? ` ${told.version}` : "";
     if (this.#asked !== null) {
@@ -298,7 +313,7 @@ class Page {
       file: ({ target }) => this.#openFile(target),
     };
     Object.entries(changes).forEach(([id, change]) => byId(id).addEventListener("change", change));
-    for (const input of document.querySelectorAll('input[name="profile"]')) {
+    for (const input of document.querySelectorAll("fieldset input")) {
       input.addEventListener("change", () => this.#changed());
     }
     addEventListener("keydown", (event) => this.#key(event), true);

@@ -5,6 +5,7 @@ import { made, madeButton } from "./elements.mjs";
 import { OneStop } from "./onestop.mjs";
 import { patternWords } from "./patternwords.mjs";
 import { isInExpression } from "./querymode.mjs";
+import { decimalsSwitch } from "./wholenumbers.mjs";
 
 // Of such a query alone the engine says nothing, since it is no text.
 const HALF_A_PAIR = "Half of a surrogate pair is no character.";
@@ -20,11 +21,16 @@ export class QueryBox {
   #editor;
   #outcome;
   #patterns;
+  #takeDecimals;
   #mark = null;
 
-  /** `outcome` and `patterns` are the elements for what is said of the query, and of the patterns in it. */
-  constructor(editor, outcome, patterns) {
+  /**
+   * `outcome` and `patterns` are the elements for what is said of the query, and of the patterns in it; `takeDecimals`
+   * chooses decimals.
+   */
+  constructor(editor, outcome, patterns, takeDecimals) {
     this.#editor = editor;
+    this.#takeDecimals = takeDecimals;
     this.#outcome = outcome;
     this.#patterns = patterns;
     new OneStop(outcome.parentElement);
@@ -122,8 +128,11 @@ export class QueryBox {
     const column = [...this.text.slice(0, index)].length;
     const inCharacters = column === place ? "" : ` (character ${column})`;
     const heading = made("strong", "", `${kind} at ${place}${inCharacters}: `);
-    const words = made("p", "wrong", heading, sentence ?? HALF_A_PAIR);
-    return suggestion === null ? [words] : [words, made("p", "", "Try: ", this.#queryButton(suggestion))];
+    const words = [made("p", "wrong", heading, sentence ?? HALF_A_PAIR)];
+    if (kind === "NotWhole") {
+      words.push(made("p", "warned", "Or choose ", decimalsSwitch(this.#takeDecimals), "."));
+    }
+    return suggestion === null ? words : [...words, made("p", "", "Try: ", this.#queryButton(suggestion))];
   }
 
   /** Puts a caret under the character at an index of the query, with what combines with it, or behind its end. */

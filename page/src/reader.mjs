@@ -9,7 +9,7 @@ export class QueryReader {
   #asked = null;
   #waiting = null;
 
-  /** `show` is called with what is told of a query, and with the query and the profile that it was asked by. */
+  /** `show` is called with what is told of a query, and with the query, the profile and the numbers it was asked by. */
   constructor(module, address, show) {
     this.#module = module;
     this.#show = show;
@@ -18,8 +18,8 @@ export class QueryReader {
     this.#worker.onerror = () => this.#answered({ fault: "The engine did not start." });
   }
 
-  read(query, profile) {
-    this.#waiting = { query, profile };
+  read({ query, profile, numbers }) {
+    this.#waiting = { query, profile, numbers };
     this.#next();
   }
 

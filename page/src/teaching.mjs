@@ -5,7 +5,7 @@ import { EXAMPLES } from "./examples.mjs";
 import { partAt, partsIn } from "./explaining.mjs";
 import { OneStop } from "./onestop.mjs";
 import { EXTENDED_FUNCTION, FUNCTIONS, KEYS, SYNTAX } from "./reference.mjs";
-import { fragmentOf } from "./cases.mjs";
+import { NEW, fragmentOf } from "./cases.mjs";
 
 // Where there is room the reference stands beside the query, and is open.
 const IS_BESIDE = "(min-width: 64rem)";
@@ -13,8 +13,8 @@ const IS_BESIDE = "(min-width: 64rem)";
 const REST = 250;
 
 /** A query over a document: a link to it, which puts both in where it is followed here. */
-function exampleLink({ document: text, profile = "standard" }, query, put) {
-  const it = { query, document: text, profile, byLines: false };
+function exampleLink({ document: text, profile = NEW.profile, numbers = NEW.numbers }, query, put) {
+  const it = { ...NEW, query, document: text, profile, numbers };
   const link = made("a", "", made("code", "", query));
   link.href = fragmentOf(it);
   link.addEventListener("click", (event) => {

@@ -1,6 +1,6 @@
 /** Asks the engine, away from the page, which so never waits for an answer. */
 import { Engine } from "../../bindings/node/engine.mjs";
-import { EXTENDED, STANDARD } from "../../bindings/node/numbers.mjs";
+import { DECIMAL, EXTENDED, EXTENDED_DECIMAL, STANDARD } from "../../bindings/node/numbers.mjs";
 import { bytesOf, textOf } from "../../bindings/node/texts.mjs";
 import { answerByLines, answerOf, refusal } from "./answers.mjs";
 import { written } from "./formats.mjs";
@@ -8,7 +8,11 @@ import { isWhole, looksLikeLines } from "./lines.mjs";
 import { toldOfPatterns } from "./patterns.mjs";
 import { placesOf } from "./places.mjs";
 
-const PROFILES = { standard: STANDARD, extended: EXTENDED };
+// By the numbers that queries and documents have.
+const PROFILES = {
+  decimal: { standard: DECIMAL, extended: EXTENDED_DECIMAL },
+  whole: { standard: STANDARD, extended: EXTENDED },
+};
 // In characters: what is shown of a path and of a value.
 const LONGEST_TEXT = 10_000;
 // Of more nodes only those that are looked at are placed.
@@ -44,22 +48,22 @@ function checked({ bytes: query, profile }) {
 }
 
 /** What is told of a query before it is asked of any document. */
-function read({ module, query, profile: name }) {
+function read({ module, query, profile: name, numbers }) {
   engine ??= new Engine(module);
-  const profile = PROFILES[name];
+  const profile = PROFILES[numbers][name];
   const told = checked({ bytes: bytesOf(query), profile });
   return told.canonical === undefined ? told : { ...told, ...toldOfPatterns(engine, query, profile) };
 }
 
 /** The canonical text, and the nodes with the time that they took, or why there are none. */
-function ask({ module, document: other, byLines, query, profile: name }) {
+function ask({ module, document: other, byLines, query, profile: name, numbers }) {
   engine ??= new Engine(module);
   if (other !== undefined) {
     text = other;
     bytes = bytesOf(other);
   }
   answer = byPlace = null;
-  const asked = { bytes: bytesOf(query), profile: PROFILES[name] };
+  const asked = { bytes: bytesOf(query), profile: PROFILES[numbers][name] };
   const told = checked(asked);
   if (told.canonical === undefined) {
     return told;

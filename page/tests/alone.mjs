@@ -31,7 +31,8 @@ function asked(worker, question) {
 async function answer(bytes) {
   const worker = new Worker(START + part("worker"), { eval: true });
   const module = new WebAssembly.Module(bytes);
-  const { count } = await asked(worker, { kind: "ask", module, document, byLines: false, query, profile: "standard" });
+  const chosen = { profile: "standard", numbers: "decimal", byLines: false };
+  const { count } = await asked(worker, { kind: "ask", module, document, query, ...chosen });
   const nodes = await asked(worker, { kind: "nodes", order: "nodelist", from: 0, to: count });
   await worker.terminate();
   return Object.values(nodes).map(({ path, value }) => `${path.text}\t${value.text}`);

@@ -101,6 +101,34 @@ async function putsNothingIntoTheAddress() {
   await browser.until(`location.href === ${JSON.stringify(PAGE)}`);
 }
 
+/** The switches stand in a link where they are not as in a new page, and come with a reload. */
+async function linksAndKeepsSwitches() {
+  await browser.allow("clipboardReadWrite", "clipboardSanitizedWrite");
+  await open({ q: "$", d: "[1.5]" });
+  assert.equal(await countOf('[value="standard"]:checked, [value="decimal"]:checked'), 2);
+  for (const [presses, added] of [
+    [["whole"], { n: "whole" }],
+    [["extended"], { p: "extended", n: "whole" }],
+    [["decimal"], { p: "extended" }],
+  ]) {
+    for (const it of presses) {
+      await click(`[value="${it}"]`);
+    }
+    await answered();
+    await click("#link");
+    const link = `${PAGE}#${new URLSearchParams({ q: "$", d: "[1.5]", ...added })}`;
+    await becomes(() => browser.value("navigator.clipboard.readText()"), link);
+    const isWhole = added.n === "whole";
+    await becomes(() => countOf("#document-outcome .wrong"), isWhole ? 1 : 0);
+    await browser.value("window.isOld = true");
+    await browser.send("Page.reload");
+    await browser.until('!window.isOld && document.querySelector("#document .CodeMirror")');
+    await answered();
+    assert.equal(await countOf(`[value="${isWhole ? "whole" : "decimal"}"]:checked`), 1);
+    assert.equal(await countOf("#document-outcome .wrong"), isWhole ? 1 : 0);
+  }
+}
+
 async function saysThatLinksHaveNoLongDocument() {
   await open({ q: "$" });
   await openFile("long.json", JSON.stringify("x".repeat(20_000)));
@@ -140,6 +168,7 @@ export const tests = [
   bringsBackInACircle,
   linksExamples,
   putsNothingIntoTheAddress,
+  linksAndKeepsSwitches,
   saysThatLinksHaveNoLongDocument,
   keepsInTheTabAlone,
   connectsToNothing,

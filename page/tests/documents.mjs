@@ -22,62 +22,105 @@ async function hasAnEditor() {
 }
 
 async function showsRefusedDocuments() {
-  for (const [document, place, sentence, path, at] of [
-    ['{"a":[0,{"b":2.5}]}', "line 1, column 14", sentenceOf("Document", "HasFraction"), "$['a'][1]['b']", ["2.5"]],
-    ['["é",\n 2,]', "line 2, column 4", sentenceOf("Document", "TrailingComma"), null, ["]"]],
+  const fraction = sentenceOf("Document", "HasFraction");
+  const beyond = "This number has more than 38 digits, or an exponent beyond 1,000,000.";
+  const comma = sentenceOf("Document", "TrailingComma");
+  for (const [document, numbers, flags, place, sentence, path, at] of [
+    ['{"a":[0,{"b":2.5}]}', "whole", [], "line 1, column 14", fraction, "$['a'][1]['b']", ["2.5"]],
+    ['{"a":[0,{"b":1e1000001}]}', "", ["--decimals"], "line 1, column 14", beyond, "$['a'][1]['b']", ["1e1000001"]],
+    ['["é",\n 2,]', "whole", [], "line 2, column 4", comma, null, ["]"]],
+    ['["é",\n 2.5,]', "", ["--decimals"], "line 2, column 6", comma, null, ["]"]],
   ]) {
-    await open({ q: "$.a", d: document });
-    const kind = byProgram("eval", "$.a", document).fault.replace("document refused: ", "");
+    await open({ q: "$.a", d: document, n: numbers });
+    const kind = byProgram("eval", "$.a", document, ...flags).fault.replace("document refused: ", "");
     const words = `${kind} in ${place}: ${sentence}${path === null ? "" : ` ${path}`}`;
     assert.equal(await textOf("#document-outcome .wrong"), words);
     assert.equal(await textOf("#document-outcome button"), path);
     assert.deepEqual(await marked("document", "refused-here"), at);
   }
-  await open({ q: "$.a", d: '{"a":[0,{"b":2.5}]}' });
+  await open({ q: "$.a", d: '{"a":[0,{"b":2.5}]}', n: "whole" });
   await click("#document-outcome button");
   await becomes(() => marked("document", "current"), ["2.5"]);
 }
 
-/** By hand: what is said of a number that is refused, and what to write in its place. */
+/** By hand: what is said of a number that is not whole, and what to write in its place. */
 const NUMBERS = [
-  ["8.95", '8.95 in a smaller unit, as prices in cents, or as the text "8.95".', '"8.95"'],
-  ["-5e-1", '-5e-1 in a smaller unit, as prices in cents, or as the text "-5e-1".', '"-5e-1"'],
-  ["1.0", "1.0 as 1.", "1"],
-  ["1e2", "1e2 as 100.", "100"],
-  ["-2.50E+1", "-2.50E+1 as -25.", "-25"],
-  ["0.5e1", "0.5e1 as 5.", "5"],
-  ["-0", "-0 as 0.", "0"],
-  ["0.0e9", "0.0e9 as 0.", "0"],
-  ["18446744073709551615.0", "18446744073709551615.0 as 18446744073709551615.", "18446744073709551615"],
-  ["-9223372036854775808e0", "-9223372036854775808e0 as -9223372036854775808.", "-9223372036854775808"],
-  ["18446744073709551616", '18446744073709551616 as the text "18446744073709551616".', '"18446744073709551616"'],
-  ["-9223372036854775809", '-9223372036854775809 as the text "-9223372036854775809".', '"-9223372036854775809"'],
-  ["1e30", '1e30 as the text "1e30".', '"1e30"'],
-  ["1e400", '1e400 as the text "1e400".', '"1e400"'],
+  ["8.95", 'or write 8.95 as the text "8.95".', '"8.95"'],
+  ["-5e-1", 'or write -5e-1 as the text "-5e-1".', '"-5e-1"'],
+  ["1.0", "or write 1.0 as 1.", "1"],
+  ["1e2", "or write 1e2 as 100.", "100"],
+  ["-2.50E+1", "or write -2.50E+1 as -25.", "-25"],
+  ["0.5e1", "or write 0.5e1 as 5.", "5"],
+  ["-0", "or write -0 as 0.", "0"],
+  ["0.0e9", "or write 0.0e9 as 0.", "0"],
+  ["18446744073709551615.0", "or write 18446744073709551615.0 as 18446744073709551615.", "18446744073709551615"],
+  ["-9223372036854775808e0", "or write -9223372036854775808e0 as -9223372036854775808.", "-9223372036854775808"],
+  ["18446744073709551616", 'or write 18446744073709551616 as the text "18446744073709551616".', '"18446744073709551616"'],
+  ["-9223372036854775809", 'or write -9223372036854775809 as the text "-9223372036854775809".', '"-9223372036854775809"'],
+  ["1e30", 'or write 1e30 as the text "1e30".', '"1e30"'],
+  ["1e400", 'or write 1e400 as the text "1e400".', '"1e400"'],
 ];
 
-async function saysWhatToWriteForNumbers() {
+function chosenNumbers() {
+  return browser.value(`document.querySelector('[name="numbers"]:checked').value`);
+}
+
+async function saysWhatToDoAboutNumbers() {
   for (const [number, words, other] of NUMBERS) {
-    await open({ q: "$[1]", d: `["é",${number}]` });
-    const isLarge = words.includes("as the text") && !words.includes("unit");
-    const start = isLarge ? "Numbers are whole here, and of 64 bits" : "Numbers are whole here";
-    assert.deepEqual(await textsOf("#document-outcome .warned"), [`${start}: write ${words}`], number);
+    await open({ q: "$[1]", d: `["é",${number}]`, n: "whole" });
+    const all = `Numbers are whole here: choose Decimals, ${words}`;
+    assert.deepEqual(await textsOf("#document-outcome .warned"), [all], number);
     assert.deepEqual(await textsOf("#document-outcome .warned code"), [number, other]);
     await type("document", `["é",${other}]`);
     await answered();
     assert.equal(await textOf("#document-outcome"), "", number);
     assert.deepEqual(await textsOf("#nodes .value"), [other]);
+    // With decimals nothing is to be done.
+    await open({ q: "$[1]", d: `["é",${number}]` });
+    assert.equal(await textOf("#document-outcome"), "", number);
+    assert.equal(await countOf("#nodes .value"), 1);
   }
-  const long = `0.${"3".repeat(1000)}`;
-  await open({ q: "$", d: long });
-  const [first, second] = await textsOf("#document-outcome .warned code");
-  assert.equal(first, `${long.slice(0, 40)}…`);
-  assert.equal(second, `"${first}"`);
+  // What is no decimal either.
+  for (const [long, shown] of [
+    [`0.${"3".repeat(1000)}`, `0.${"3".repeat(38)}…`],
+    [`1${"0".repeat(37)}1`, `1${"0".repeat(37)}1`],
+  ]) {
+    await open({ q: "$", d: long, n: "whole" });
+    const words = `rite ${shown} as the text "${shown}".`;
+    assert.deepEqual(await textsOf("#document-outcome .warned"), [`Numbers are whole here: w${words}`]);
+    await open({ q: "$", d: long });
+    assert.deepEqual(await textsOf("#document-outcome .warned"), [`W${words}`]);
+  }
   // Where no number is what is refused.
   for (const document of ["[1,]", "[01]", "[1.]", "[NaN]", "[1"]) {
-    await open({ q: "$", d: document });
-    assert.equal(await countOf("#document-outcome .wrong"), 1, document);
-    assert.equal(await countOf("#document-outcome .warned"), 0, document);
+    for (const n of ["", "whole"]) {
+      await open({ q: "$", d: document, n });
+      assert.equal(await countOf("#document-outcome .wrong"), 1, document);
+      assert.equal(await countOf("#document-outcome .warned"), 0, document);
+    }
+  }
+}
+
+/** What is said of a number, in a document or in a query, has the switch in it. */
+async function choosesDecimals() {
+  const words = 'Numbers are whole here: choose Decimals, or write 8.95 as the text "8.95".';
+  for (const [asked, outcome, told] of [
+    [{ q: "$[?@<9]", d: "[8.95]" }, "#document-outcome", words],
+    [{ q: "$[?@<9]", d: "8\n[8.95]", l: "1" }, "#document-outcome", words],
+    [{ q: "$[?@<9.5]", d: "[8.95]" }, "#query-outcome", "Or choose Decimals."],
+  ]) {
+    await open({ ...asked, n: "whole" });
+    assert.equal(await chosenNumbers(), "whole");
+    assert.equal(await textOf(`${outcome} .warned`), told);
+    await click(`${outcome} .warned button`);
+    await answered();
+    assert.equal(await chosenNumbers(), "decimal");
+    assert.equal(await browser.value("document.activeElement.value"), "decimal");
+    assert.equal(await countOf(`${outcome} .warned, ${outcome} .wrong`), 0);
+    assert.deepEqual(await textsOf("#nodes .value"), ["8.95"]);
+    await click('[value="whole"]');
+    await answered();
+    assert.ok((await countOf(`${outcome} .wrong`)) > 0);
   }
 }
 
@@ -163,7 +206,8 @@ async function keepsTheDocumentWhereAFileFails() {
 export const tests = [
   hasAnEditor,
   showsRefusedDocuments,
-  saysWhatToWriteForNumbers,
+  saysWhatToDoAboutNumbers,
+  choosesDecimals,
   indents,
   goesOnMeanwhile,
   showsPartsOfLongDocuments,

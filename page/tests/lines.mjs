@@ -20,13 +20,13 @@ function seen(selector) {
 }
 
 async function readsJsonLines() {
-  await open({ q: "$..a", d: "[]" });
+  await open({ q: "$..a", d: "[]", n: "whole" });
   await openFile("records.jsonl", LINES);
   await answered();
   assert.equal(await isByLines(), true);
   assert.deepEqual(await textsOf("#nodes li > .quiet, #nodes .path"), NODES);
   // Of the numbers that are refused the first is told.
-  const words = 'Numbers are whole here: write 2.5 in a smaller unit, as prices in cents, or as the text "2.5".';
+  const words = 'Numbers are whole here: choose Decimals, or write 2.5 as the text "2.5".';
   assert.deepEqual(await seen("> p"), ["2 of 5 lines are refused:", words]);
   const [first, second, ...others] = await seen("li");
   assert.match(first, /^NotWhole in line 4, column 6: .* \$\['a'\]$/);
@@ -39,6 +39,15 @@ async function readsJsonLines() {
   await answered();
   // As one document it goes wrong behind its first line.
   assert.match(await textOf("#document-outcome .wrong"), /^NotJson in line 3, column 1: /);
+}
+
+/** With decimals the line with a fraction is one of the others. */
+async function readsDecimalsByLines() {
+  await open({ q: "$..a", d: LINES, l: "1" });
+  assert.deepEqual(await seen("> p"), ["1 of 5 lines is refused:"]);
+  const nodes = [...NODES.slice(0, 6), "line 4", "$['a']", ...NODES.slice(6)];
+  assert.deepEqual(await textsOf("#nodes li > .quiet, #nodes .path"), nodes);
+  assert.deepEqual(await marked("document", "selected"), ["1", '[2,{"a":3}]', "3", "2.5", "4"]);
 }
 
 /** Of many lines some are told in the open, and how many there are besides. */
@@ -56,7 +65,7 @@ async function tellsOfManyRefusedLines() {
 }
 
 async function recognizesJsonLines() {
-  await open({ q: "$..a", d: LINES });
+  await open({ q: "$..a", d: LINES, n: "whole" });
   assert.deepEqual(await seen("button"), ["Read as JSON Lines"]);
   assert.equal(await textOf(".offered"), " JSON Lines");
   await click("#document-outcome button");
@@ -64,12 +73,14 @@ async function recognizesJsonLines() {
   assert.equal(await countOf(".offered"), 0);
   assert.equal(await isByLines(), true);
   assert.deepEqual(await textsOf("#nodes li > .quiet, #nodes .path"), NODES);
-  // Lines whose numbers have fractions, which the engine refuses, and blank lines between.
-  await open({ q: "$..a", d: '\n{"a":1.5}\r\n\n{"a":2.5}' });
-  assert.deepEqual(await seen("button"), ["Read as JSON Lines"]);
+  // Lines whose numbers have fractions, also where the engine refuses these, and blank lines between.
+  for (const n of ["", "whole"]) {
+    await open({ q: "$..a", d: '\n{"a":1.5}\r\n\n{"a":2.5}', n });
+    assert.deepEqual(await seen("button"), ["Read as JSON Lines"]);
+  }
   for (const document of ["[1,", "[1,]", "[\n1.5\n]", '{"a":1}\n}', "1 2", "[1]\n", "\n"]) {
     await open({ q: "$", d: document });
-    assert.deepEqual(await seen("button"), document.includes("1.5") ? ["$[0]"] : [], document);
+    assert.deepEqual(await seen("button"), [], document);
   }
 }
 
@@ -85,4 +96,4 @@ async function recognizesOneDocument() {
   assert.equal(await countOf("#document-outcome button"), 0);
 }
 
-export const tests = [readsJsonLines, tellsOfManyRefusedLines, recognizesJsonLines, recognizesOneDocument];
+export const tests = [readsJsonLines, readsDecimalsByLines, tellsOfManyRefusedLines, recognizesJsonLines, recognizesOneDocument];

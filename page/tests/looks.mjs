@@ -9,7 +9,7 @@ import {
 const WIDTHS = [360, 800, 1280];
 const WINDOWS = WIDTHS.flatMap((width) => ["light", "dark"].map((scheme) => ({ width, height: 800, scheme })));
 const [, , , pictures] = process.argv;
-const { document: REFUSED } = EXAMPLES.find(({ title }) => title.startsWith("A refused document"));
+const [{ document: PRICES }] = EXAMPLES;
 
 /** What is said with less contrast than 4.5 (WCAG 2.2, success criterion 1.4.3). What can't be pressed is left out. */
 const FAINT = `(() => {
@@ -86,15 +86,19 @@ async function isWholeInEachWindow() {
     }
     await open({ q: `$['${"é😀".repeat(40)}'][01]`, d: STORE }, window);
     await isWhole("refused-query", window);
-    await open({ q: "$", d: `{"${"long".repeat(40)}":[0,2.5]}` }, window);
+    await open({ q: "$", d: `{"${"long".repeat(40)}":[0,2.5]}`, n: "whole" }, window);
     await isWhole("refused-document", window);
-    await open({ q: "$..book[0].title", d: REFUSED }, window);
+    await open({ q: "$..book[0].title", d: PRICES, n: "whole" }, window);
     await isWhole("refused-number", window);
-    await open({ q: "$", d: '{"distance":18446744073709551616}' }, window);
+    await open({ q: "$..book[?@.price<8.99]", d: PRICES, n: "whole" }, window);
+    await isWhole("refused-literal", window);
+    await open({ q: "$", d: '{"distance":18446744073709551616}', n: "whole" }, window);
     await isWhole("refused-large-number", window);
+    await open({ q: "$", d: '{"distance":1e1000001}' }, window);
+    await isWhole("refused-decimal", window);
     await open({ q: "", d: "" }, window);
     await isWhole("empty", window);
-    await open({ q: "$..a", d: '{"a":1}\n{"a":[2,{"a":3},4,5]}\n{"a":2.5}', l: "1" }, window);
+    await open({ q: "$..a", d: '{"a":1}\n{"a":[2,{"a":3},4,5]}\n{"a":2.5}', l: "1", n: "whole" }, window);
     await click("#next");
     await isWhole("lines", window);
     await open({ q: "$..a", d: '{"a":1}\n{"a":2}' }, window);

@@ -18,8 +18,13 @@ async function showsNodes() {
   await choose("form", "values");
   await becomes(() => textsOf("#nodes .value"), byProgram("eval", QUERY, STORE).output.trim().split("\n"));
   assert.deepEqual(await textsOf("#nodes .path"), ["Node 1", "Node 2"]);
-  await open({ q: "$[?distinct(@.*)]", d: STORE, p: "extended" });
+  await open({ q: "$[?distinct(@.*)]", d: STORE, p: "extended", n: "whole" });
   assert.equal(await listed(), byProgram("both", "$[?distinct(@.*)]", STORE, "--extended").output);
+  const prices = '{"a":[8.950,1e2,0.10000000000000000001,1e400]}';
+  await open({ q: "$..[?@<8.99 || @>1e3]", d: prices });
+  assert.equal(`${(await textsOf("#nodes .value")).join("\n")}\n`, byProgram("eval", "$..[?@<8.99 || @>1e3]", prices, "--decimals").output);
+  assert.deepEqual(await textsOf("#nodes .value"), ["8.95", "0.10000000000000000001", "1e+400"]);
+  assert.deepEqual(await marked("document", "selected"), ["8.950", "0.10000000000000000001", "1e400"]);
   await open({ q: "$.nothing", d: STORE });
   assert.match(await textOf("#count"), /^0 nodes in /);
   assert.equal(await countOf("#previous:disabled, #next:disabled, #copy:disabled, #save:disabled"), 4);

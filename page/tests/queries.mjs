@@ -117,7 +117,12 @@ async function movesNothing() {
       await answered();
       assert.deepEqual(await boxOf("#document"), before, `${query} at ${width}`);
     }
-    for (const document of ['{"a":2.5}', '{"store":{"book":[{"price":8.95}]}}', "[1,]", ""]) {
+    await click('[value="whole"]');
+    await type("query", "$[?@.price < 8.95]");
+    await answered();
+    assert.deepEqual(await boxOf("#document"), before, `a fraction at ${width}`);
+    await type("query", "$.b");
+    for (const document of ['{"a":2.5}', '{"store":{"book":[{"price":8.95}]}}', "[1e30]", "[1,]", ""]) {
       await type("document", document);
       await answered();
       assert.deepEqual((await boxOf(".nodes"))[0], below[0], `${document} at ${width}`);
@@ -127,7 +132,7 @@ async function movesNothing() {
 
 /** On a narrow screen, which has no room to spare, no box moves while it is typed in. */
 async function movesNoBoxThatIsTypedIn() {
-  await open({ q: "$.b[0]", d: STORE }, { width: 360, height: 800 });
+  await open({ q: "$.b[0]", d: STORE, n: "whole" }, { width: 360, height: 800 });
   const typed = {
     query: ["$.b[0", "$[?@.a = 1]", "", "$[?match(@.a, '^\\\\d$')]", "$[?count(@.a, @.b) == 1]", "$.b"],
     document: ['{"a":2.5}', "[1,", '{"b":1}\n{"b":2}', "[1,]", "", "[]"],

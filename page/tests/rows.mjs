@@ -6,6 +6,13 @@ import { browser, open } from "./shown.mjs";
 // What a row asks; of a query the page does not know the name of the reason.
 const ASKED = ["from", "profile", "query", "document", "not"];
 const AT_ONCE = 500;
+// What is chosen for a row's profile.
+const CHOSEN = {
+  Standard: { profile: "standard", numbers: "whole" },
+  Extended: { profile: "extended", numbers: "whole" },
+  Decimal: { profile: "standard", numbers: "decimal" },
+  ExtendedDecimal: { profile: "extended", numbers: "decimal" },
+};
 
 /** Runs in the page before it: keeps its worker at hand, and the module that it is given. */
 const BEFORE = `{
@@ -30,9 +37,9 @@ async function toldInPage(rows) {
     worker.postMessage(words);
   });
   const told = [];
-  for (const { query, document: text = "", profile } of rows) {
+  for (const { query, document: text = "", chosen } of rows) {
     const asked = { kind: "ask", module: window.heldModule, byLines: false, query, document: text };
-    const answer = await call({ ...asked, profile: profile.toLowerCase() });
+    const answer = await call({ ...asked, ...chosen });
     const count = answer.count ?? 0;
     told.push({ answer, nodes: count > 0 ? await call({ kind: "nodes", order: "nodelist", from: 0, to: count }) : [] });
   }
@@ -66,9 +73,9 @@ async function asksEachRow() {
   const run = rows.filter((row) => row.not?.page === undefined);
   await open({ q: "$", d: "[]" }, { before: BEFORE });
   for (let from = 0; from < run.length; from += AT_ONCE) {
-    const some = run.slice(from, from + AT_ONCE);
+    const some = run.slice(from, from + AT_ONCE).map((row) => ({ ...row, chosen: CHOSEN[row.profile] }));
     const told = await browser.value(`(${toldInPage})(${JSON.stringify(some)})`);
-    some.forEach((row, at) => assertRow(row, told[at]));
+    some.forEach(({ chosen, ...row }, at) => assertRow(row, told[at]));
   }
   assert.equal(rows.length, head.rows);
   console.log(`${run.length} rows by the page, ${rows.length - run.length} not`);

@@ -13,7 +13,8 @@ const [, , program, folder, bundle] = process.argv;
 const TYPES = { ".html": "text/html", ".mjs": "text/javascript", ".wasm": "application/wasm" };
 const MAPPED = '<script type="importmap">{"imports":{"jsonpath-jp":"/package/browser.mjs"}}</script>';
 const EXPECTED = {
-  values: [9, 12],
+  values: [8.95, 100],
+  whole: "9007199254740993",
   pointers: ["/a~1b", "/a~1b/0"],
   refused: ["Syntax", "$[?@.a == 1]", "Syntax"],
 };

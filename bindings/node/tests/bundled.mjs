@@ -11,7 +11,8 @@ const refused = () => {
 };
 
 globalThis.given = {
-  values: jp.values("$..price", '{"a":[{"price":9},{"price":12}]}'),
+  values: jp.values("$..price", '{"a":[{"price":8.950},{"price":1e2}]}'),
+  whole: new jp.Document("[9007199254740993]", { numbers: "whole" }).findOne("$[?@>9007199254740992]").text,
   pointers: new jp.Document({ "a/b": [1] }).find("$..*").map((match) => match.pointer),
   refused: refused(),
 };

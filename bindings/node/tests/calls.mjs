@@ -6,8 +6,8 @@ import * as jp from "../jp.mjs";
 const STORE = {
   store: {
     book: [
-      { category: "reference", author: "Nigel Rees", title: "Sayings", price: 8 },
-      { category: "fiction", author: "Evelyn Waugh", title: "Sword", price: 12 },
+      { category: "reference", author: "Nigel Rees", title: "Sayings", price: 8.95 },
+      { category: "fiction", author: "Evelyn Waugh", title: "Sword", price: 12.99 },
     ],
     bicycle: { color: "red", price: 399 },
   },
@@ -41,9 +41,11 @@ test("paths and values", () => {
 test("whole numbers are exact, from values", () => {
   for (const whole of WHOLE) {
     const value = -SAFE <= whole && whole <= SAFE ? Number(whole) : whole;
-    for (const document of [[whole], [value], new jp.Document([whole])]) {
-      assert.equal(jp.findOne("$[0]", document).text, `${whole}`);
-      assert.deepEqual(jp.values("$[0]", document), [value]);
+    for (const numbers of ["whole", "decimal"]) {
+      for (const document of [[whole], [value], new jp.Document([whole], { numbers })]) {
+        assert.equal(jp.findOne("$[0]", document, { numbers }).text, `${whole}`);
+        assert.deepEqual(jp.values("$[0]", document, { numbers }), [value]);
+      }
     }
   }
   const mixed = { "1234567890123456": "n18446744073709551615", b: ["t\\\"", "9007199254740993:"], c: 2n ** 63n };
@@ -53,9 +55,12 @@ test("whole numbers are exact, from values", () => {
 
 test("whole numbers beyond 64 bits", () => {
   for (const whole of BEYOND) {
-    const refused = thrown(jp.DocumentError, () => jp.find("$", [0, whole]));
+    const refused = thrown(jp.DocumentError, () => jp.find("$", [0, whole], { numbers: "whole" }));
     assert.deepEqual([refused.kind, refused.path, refused.column], ["NotWhole", "$[1]", 4]);
     assert.equal(refused.reason, "OutOfRange");
+    // With an exponent in its text it is a Number where that has the same.
+    const value = whole % 10n ** 30n === 0n ? Number(whole) : whole;
+    assert.deepEqual(jp.values("$[?@!=0]", [0, whole]), [value]);
   }
 });
 
@@ -122,12 +127,15 @@ test("places are bytes, and columns are indexes of the query", () => {
 });
 
 test("documents of JavaScript that are refused", () => {
-  for (const [document, kind, path, place, reason] of [
-    ['"\ud800"', "NotJson", null, [1, 1, 2], "NotUtf8"],
-    [[0.5], "NotWhole", "$[0]", [1, 1, 2], "HasFraction"],
+  const many = (query, it, options) => jp.findMany([query], it, options);
+  for (const [document, numbers, kind, path, place, reason] of [
+    ['"\ud800"', "decimal", "NotJson", null, [1, 1, 2], "NotUtf8"],
+    ['"\ud800"', "whole", "NotJson", null, [1, 1, 2], "NotUtf8"],
+    [[0.5], "whole", "NotWhole", "$[0]", [1, 1, 2], "HasFraction"],
+    [[10n ** 39n + 1n], "decimal", "NumberRange", "$[0]", [1, 1, 2], "BeyondDecimal"],
   ]) {
-    for (const call of [jp.find, jp.paths, jp.values, (query, it) => jp.findMany([query], it)]) {
-      const refused = thrown(jp.DocumentError, () => call("$", document));
+    for (const call of [jp.find, jp.paths, jp.values, many]) {
+      const refused = thrown(jp.DocumentError, () => call("$", document, { numbers }));
       assert.deepEqual([refused.kind, refused.path], [kind, path]);
       assert.deepEqual([refused.offset, refused.line, refused.column], place);
       assert.equal(refused.reason, reason);
@@ -136,11 +144,12 @@ test("documents of JavaScript that are refused", () => {
 });
 
 test("what is said of a document that is refused", () => {
-  for (const [document, text] of [
-    ["[1,\n]", "NotJson\nline 2, column 1"],
-    ["[-0]", "NotWhole at $[0]\nline 1, column 2"],
+  for (const [document, numbers, text] of [
+    ["[1,\n]", "decimal", "NotJson\nline 2, column 1"],
+    ["[-0]", "whole", "NotWhole at $[0]\nline 1, column 2"],
+    ["[0,\n1e1000001]", "decimal", "NumberRange at $[1]\nline 2, column 1"],
   ]) {
-    const refused = thrown(jp.DocumentError, () => jp.find("$", document));
+    const refused = thrown(jp.DocumentError, () => jp.find("$", document, { numbers }));
     assert.equal(refused.message, `document refused: ${text}: ${refused.sentence}`);
   }
   assert.equal(new jp.DocumentError("NotWhole", "$[0]").message, "document refused: NotWhole at $[0]");
@@ -155,12 +164,12 @@ test("the deepest query and document", () => {
 
 test("many queries are answered in turn, and a refused one ends nothing", () => {
   const [prices, refused, none] = jp.findMany(["$..price", "$[01]", "$.none"], STORE);
-  assert.deepEqual(prices.map((match) => match.value), [399, 8, 12]);
+  assert.deepEqual(prices.map((match) => match.value), [399, 8.95, 12.99]);
   assert.ok(refused instanceof jp.QueryError);
   assert.deepEqual([refused.kind, refused.place], ["Syntax", 3]);
   assert.deepEqual(none, []);
-  assert.ok(thrown(jp.DocumentError, () => jp.findMany(["$[01]", "$"], "[1.5]")));
-  assert.equal(jp.findMany(["$[01]"], "[1.5]").length, 1);
+  assert.ok(thrown(jp.DocumentError, () => jp.findMany(["$[01]", "$"], "[1.5.]")));
+  assert.equal(jp.findMany(["$[01]"], "[1.5.]").length, 1);
 });
 
 // A query, and how many steps it needs over the document: one for each value that is offered and for the end, a
@@ -169,14 +178,17 @@ for (const [query, steps] of [
   ["$[*]", 7],
   ["$..*", 9],
   ["$[?@==2]", 9],
+  ["$[?@==2.5]", 9],
 ]) {
   test(`a limit that suffices for ${query}, and one less`, () => {
-    for (const call of [jp.find, jp.paths, jp.values]) {
-      const expected = call(query, "[1,2]");
-      assert.deepEqual(call(query, "[1,2]", { limit: steps }), expected);
-      assert.deepEqual(call(query, "[1,2]", { limit: BigInt(steps) }), expected);
-      const stopped = thrown(jp.StepsUsedUp, () => call(query, "[1,2]", { limit: steps - 1 }));
-      assert.deepEqual([stopped.limit, stopped.query], [BigInt(steps - 1), query]);
+    for (const document of ["[1,2]", "[0.1,2.5]"]) {
+      for (const call of [jp.find, jp.paths, jp.values]) {
+        const expected = call(query, document);
+        assert.deepEqual(call(query, document, { limit: steps }), expected);
+        assert.deepEqual(call(query, document, { limit: BigInt(steps) }), expected);
+        const stopped = thrown(jp.StepsUsedUp, () => call(query, document, { limit: steps - 1 }));
+        assert.deepEqual([stopped.limit, stopped.query], [BigInt(steps - 1), query]);
+      }
     }
   });
 }
@@ -208,7 +220,7 @@ test("a query that would take years ends at its limit", () => {
 });
 
 test("calls go on after the stack ran out", () => {
-  const deep = (depth) => (depth === 0 ? jp.values("$..[?@..a]", "[1]") : deep(depth - 1));
+  const deep = (depth) => (depth === 0 ? jp.values("$..[?@..a || @<0.1]", "[1.5]") : deep(depth - 1));
   for (let depth = 1; depth < 40_000; depth += 1000) {
     try {
       deep(depth);
@@ -216,5 +228,5 @@ test("calls go on after the stack ran out", () => {
       assert.ok(fault instanceof RangeError);
     }
   }
-  assert.deepEqual(jp.values("$[0]", "[1]"), [1]);
+  assert.deepEqual(jp.values("$[0]", "[1.5]"), [1.5]);
 });

@@ -37,7 +37,8 @@ function thrown(call) {
 
 const ERRORS = [
   [() => jp.check("$[?@.é = 1]"), { kind: "Syntax", place: 9, suggestion: "$[?@.é == 1]" }],
-  [() => jp.find("$", "[1.5]"), { kind: "NotWhole", path: "$[0]", column: 2, reason: "HasFraction" }],
+  [() => jp.find("$", "[1.5]", { numbers: "whole" }), { kind: "NotWhole", path: "$[0]", column: 2, reason: "HasFraction" }],
+  [() => jp.find("$", "[1e-1000001]"), { kind: "NumberRange", path: "$[0]", column: 2, reason: "BeyondDecimal" }],
   [() => jp.find("$", [NaN]), { kind: "NotJson", path: "$[0]", offset: null }],
   [() => jp.find("$..*", "[1,2]", { limit: 8 }), { name: "StepsUsedUp", limit: 8n, query: "$..*" }],
   [() => jp.find("$..*", "[1,2]", { maxNodes: 1 }), { name: "TooManyNodes", limit: 1n }],

@@ -95,10 +95,14 @@ test("options that are none", () => {
   ];
   for (const call of calls) {
     for (const [options, message] of [
-      [{ limits: 1 }, "there is no option 'limits' here, only: extended, limit, maxNodes, maxBytes"],
-      [{ Extended: true }, "there is no option 'Extended' here, only: extended, limit, maxNodes, maxBytes"],
+      [{ limits: 1 }, "there is no option 'limits' here, only: extended, numbers, limit, maxNodes, maxBytes"],
+      [{ Extended: true }, "there is no option 'Extended' here, only: extended, numbers, limit, maxNodes, maxBytes"],
       [{ extended: "no" }, "the option 'extended' is true or false, and not of type string"],
       [{ extended: 1 }, "the option 'extended' is true or false, and not of type number"],
+      [{ numbers: "decimals" }, `the option 'numbers' is "decimal" or "whole", and not "decimals"`],
+      [{ numbers: "toString" }, `the option 'numbers' is "decimal" or "whole", and not "toString"`],
+      [{ numbers: true }, `the option 'numbers' is "decimal" or "whole", and not of type boolean`],
+      [{ numbers: ["whole"] }, `the option 'numbers' is "decimal" or "whole", and not of type Array`],
       [{ limit: "1" }, "the option 'limit' is a whole number of steps, or a BigInt"],
       [{ limit: NaN }, "the option 'limit' is a whole number of steps, or a BigInt"],
       [{ maxNodes: "1" }, "the option 'maxNodes' is a whole number of nodes, or a BigInt"],
@@ -109,15 +113,23 @@ test("options that are none", () => {
     ]) {
       assert.throws(() => call(options), typeError(message));
     }
-    for (const options of [undefined, null, {}, { extended: undefined, limit: undefined }, { limit: null, maxNodes: null }]) {
+    const none = { extended: undefined, numbers: undefined, limit: undefined };
+    for (const options of [undefined, null, {}, none, { numbers: null, limit: null, maxNodes: null }]) {
       assert.doesNotThrow(() => call(options));
     }
   }
   const query = jp.compile("$");
-  const isFixed = typeError("there is no option 'extended' here, only: limit, maxNodes, maxBytes");
-  for (const call of [jp.find.bind(null, query), query.find.bind(query)]) {
-    assert.throws(() => call("1", { extended: true }), isFixed);
+  for (const [name, value] of Object.entries({ extended: true, numbers: "decimal" })) {
+    const isFixed = typeError(`there is no option '${name}' here, only: limit, maxNodes, maxBytes`);
+    for (const call of [jp.find.bind(null, query), query.find.bind(query)]) {
+      assert.throws(() => call("1", { [name]: value }), isFixed);
+    }
   }
+  for (const options of [{ extended: true }, { limit: 1 }]) {
+    const [name] = Object.keys(options);
+    assert.throws(() => new jp.Document("1", options), typeError(`there is no option '${name}' here, only: numbers`));
+  }
+  assert.throws(() => new jp.Document("1", "whole"), typeError("options are an object, and not of type string"));
 });
 
 test("documents as bytes", () => {
@@ -190,7 +202,8 @@ test("numbers that JSON has not", () => {
 });
 
 test("Numbers that are whole and no safe integers", () => {
-  for (const number of [2 ** 53, 2 ** 53 + 2, 2 ** 60, 2 ** 63, 2 ** 64, 1e21, 1e300].flatMap((it) => [it, -it])) {
+  const large = [2 ** 53, 2 ** 53 + 2, 2 ** 60, 2 ** 63, 2 ** 64, 1e21, 6.02e23, 1e300];
+  for (const number of large.flatMap((it) => [it, -it])) {
     for (const [document, path] of [
       [number, "$"],
       [{ a: [2n ** 60n, number] }, "$['a'][1]"],
@@ -206,8 +219,11 @@ test("Numbers that are whole and no safe integers", () => {
         reason: null,
         sentence: `${number} is no safe integer: give a BigInt, or JSON text.`,
       };
-      for (const call of [(it) => jp.find("$", it), (it) => new jp.Document(it), (it) => jp.findMany(["$"], it)]) {
-        assert.throws(() => call(document), refused);
+      const many = (query, ...words) => jp.findMany([query], ...words);
+      for (const call of [jp.find, (_, ...words) => new jp.Document(...words), many]) {
+        for (const numbers of ["decimal", "whole"]) {
+          assert.throws(() => call("$", document, { numbers }), refused);
+        }
       }
     }
   }

@@ -98,7 +98,7 @@ test("a most of nodes and bytes of many queries", () => {
 });
 
 test("one node after another takes steps alone", () => {
-  const message = "there is no option 'maxNodes' here, only: extended, limit";
+  const message = "there is no option 'maxNodes' here, only: extended, numbers, limit";
   assert.throws(() => jp.findIter("$[*]", "[1,2]", { maxNodes: 1 }), new TypeError(message));
   const query = jp.compile("$[*]", { maxNodes: 1, maxBytes: 1 });
   assert.throws(() => query.findIter("[1,2]", { maxBytes: 1 }), TypeError);
@@ -140,7 +140,7 @@ test("all nodes take three times the steps of one call at most, wherever they st
     const isNode = (at) => at >= from && at < to && (at - from) % each === 0;
     const document = bytesOf(`[${Array.from({ length: 2000 }, (_, at) => (isNode(at) ? 1 : 0)).join(",")}]`);
     const question = { asked: new KeptQuery(bytesOf("$[?@==1]"), STANDARD), text: "$[?@==1]", most: UNLIMITED };
-    const kept = new KeptDocument(document);
+    const kept = new KeptDocument(document, STANDARD);
     const once = engine.ask(question.asked, kept, PATHS);
     const [steps, expected] = [once.steps, textOf(once.text).split("\n").slice(0, -1)];
     const made = [];
@@ -174,11 +174,12 @@ test("what is asked for one after another goes on beside other calls", () => {
 });
 
 test("what a query tells of itself", () => {
-  const query = jp.compile("$ .a", { extended: true, limit: 7, maxNodes: 8n, maxBytes: 9 });
-  assert.deepEqual([query.text, `${query}`, query.extended], ["$ .a", "$ .a", true]);
+  const query = jp.compile("$ .a", { extended: true, numbers: "whole", limit: 7, maxNodes: 8n, maxBytes: 9 });
+  assert.deepEqual([query.text, `${query}`, query.extended, query.numbers], ["$ .a", "$ .a", true, "whole"]);
   assert.deepEqual([query.limit, query.maxNodes, query.maxBytes], [7, 8n, 9]);
   const bare = new jp.Query("$");
-  assert.deepEqual([bare.text, bare.extended], ["$", false]);
+  assert.deepEqual([bare.text, bare.extended, bare.numbers], ["$", false, "decimal"]);
+  assert.deepEqual([jp.compile("$", { extended: true }).extended, jp.compile("$", { numbers: "whole" }).extended], [true, false]);
   assert.deepEqual([bare.limit, bare.maxNodes, bare.maxBytes], [undefined, undefined, undefined]);
 });
 
@@ -223,8 +224,8 @@ test("documents and queries that are refused are not kept", () => {
     ["[1,2.5]", "$[1]", "HasFraction"],
   ]) {
     const is = { name: "DocumentError", path, reason };
-    assert.throws(() => new jp.Document(document), is);
-    assert.throws(() => jp.compile("$").values(document), is);
+    assert.throws(() => new jp.Document(document, { numbers: "whole" }), is);
+    assert.throws(() => jp.compile("$", { numbers: "whole" }).values(document), is);
   }
   const kept = new jp.Document("[1]");
   for (const call of [() => kept.find("$["), () => jp.compile("$["), () => jp.find("$[", kept)]) {
@@ -337,8 +338,8 @@ test("memory of a large document is given back, and queries go on", async () => 
 test("a document that is kept is kept where the memory of an answer is given back", () => {
   const engine = new Engine(module);
   const query = new KeptQuery(bytesOf("$[*]"), STANDARD);
-  const document = new KeptDocument(LARGE);
-  const small = new KeptDocument(bytesOf("[5]"));
+  const document = new KeptDocument(LARGE, STANDARD);
+  const small = new KeptDocument(bytesOf("[5]"), STANDARD);
   assert.deepEqual([document, small].map((it) => engine.keep(it).status), [DONE, DONE]);
   const kept = engine.size;
   assert.ok(kept > MOST);
@@ -359,7 +360,7 @@ test("a document that is kept is kept where the memory of an answer is given bac
 test("a document that is kept for an iterator is forgotten with it", () => {
   const question = { asked: new KeptQuery(bytesOf("$[*]"), STANDARD), text: "$[*]", most: UNLIMITED };
   for (const isEnded of [false, true]) {
-    const given = { asks: new Engine(module), kept: new KeptDocument(LARGE) };
+    const given = { asks: new Engine(module), kept: new KeptDocument(LARGE, STANDARD) };
     const each = eachLineBy(given, true, question, VALUES);
     assert.deepEqual([each.next().value, each.next().value], ["0", "0"]);
     assert.ok(given.asks.size > MOST);
@@ -408,7 +409,7 @@ test("memory of what is forgotten is used again", async () => {
   for (let round = 0; round < 20; round += 1) {
     for (let time = 0; time < 500; time += 1) {
       const query = new KeptQuery(bytesOf(`$..a[?@.b==${time}]`), STANDARD);
-      assert.equal(textOf(engine.ask(query, new KeptDocument(bytesOf('{"a":[{"b":7}]}')), PATHS).text).length,
+      assert.equal(textOf(engine.ask(query, new KeptDocument(bytesOf('{"a":[{"b":7}]}'), STANDARD), PATHS).text).length,
         time === 7 ? "$['a'][0]\n".length : 0);
     }
     await collected();

@@ -10,6 +10,13 @@ import { pathOf } from "../paths.mjs";
 const FILE = process.argv[2] ?? new URL("../../rows.jsonl", import.meta.url);
 // What a row asks; a query's error does not tell the name of its reason.
 const ASKED = ["from", "profile", "query", "document", "bytes", "not"];
+// The numbers of the last two need not be said.
+const OPTIONS = {
+  Standard: { numbers: "whole" },
+  Extended: { extended: true, numbers: "whole" },
+  Decimal: {},
+  ExtendedDecimal: { extended: true },
+};
 
 /** The document as bytes, or undefined. */
 function bytesOf({ bytes, document }) {
@@ -52,7 +59,8 @@ function many(query, document, options) {
 function ways(row) {
   const { query } = row;
   const document = bytesOf(row);
-  const options = { extended: row.profile === "Extended" };
+  const options = OPTIONS[row.profile];
+  const { numbers } = options;
   const canonical = () => jp.canonical(query, options);
   if (document === undefined) {
     return [canonical];
@@ -61,9 +69,11 @@ function ways(row) {
     () => jp.find(query, document, options),
     () => (row.document === undefined ? jp.find(query, document, options) : jp.find(query, row.document, options)),
     () => jp.compile(query, options).find(document),
-    () => jp.find(jp.compile(query, options), new jp.Document(document)),
+    () => jp.find(jp.compile(query, options), new jp.Document(document, { numbers })),
     () => many(query, document, options),
-    ...(row.refused === "Query" ? [canonical, () => jp.check(query, options) ?? ""] : []),
+    ...(row.refused === "Query"
+      ? [canonical, () => jp.check(query, options) ?? ""]
+      : [() => new jp.Document(document, { numbers }).find(query, options)]),
   ];
 }
 
@@ -82,8 +92,8 @@ function assertRow(row) {
 /** That what is kept answers in the same way, one node after another too, and that a path is that of its steps. */
 function assertKept(row) {
   const document = bytesOf(row);
-  const query = jp.compile(row.query, { extended: row.profile === "Extended" });
-  const kept = new jp.Document(document);
+  const query = jp.compile(row.query, OPTIONS[row.profile]);
+  const kept = new jp.Document(document, { numbers: query.numbers });
   const found = query.find(document);
   assert.deepEqual(query.paths(document), row.paths);
   assert.deepEqual(query.values(document), found.map(({ value }) => value));

@@ -2,7 +2,8 @@
 import * as jp from "../jp.mjs";
 
 const query: jp.Query = jp.compile("$.a", { extended: true, limit: 10n, maxNodes: 7, maxBytes: 8n });
-const document: jp.Document = new jp.Document('{"a":1}');
+const document: jp.Document = new jp.Document('{"a":1.5}', { numbers: "decimal" });
+const numbers: jp.Numbers[] = [query.numbers, document.numbers, jp.compile("$", { numbers: "whole" }).numbers];
 const given: jp.DocumentLike[] = [document, "1", new Uint8Array(), new ArrayBuffer(0), { a: [1] }, 1, 2n, true, null];
 
 for (const it of given) {
@@ -30,7 +31,7 @@ for (const it of given) {
 const kept: [jp.Match[], jp.Match | null, jp.Value[], string[], boolean] = [
   document.find(query),
   document.findOne("$"),
-  document.values("$", { extended: true }),
+  document.values("$", { extended: true, numbers: "decimal" }),
   document.paths("$", { limit: 1n }),
   document.exists(query),
 ];
@@ -40,7 +41,7 @@ const many: (jp.Match[] | jp.QueryError | jp.StepsUsedUp | jp.TooManyNodes | jp.
 );
 const iterators: Iterable<jp.Match>[] = [query.findIter(document), document.findIter("$", { extended: true })];
 const texts: string[] = [jp.canonical("$"), jp.version(), `${query}`, query.text];
-console.log(kept, many, iterators, texts, jp.check("$"), jp.parse("$") instanceof jp.Query);
+console.log(numbers, kept, many, iterators, texts, jp.check("$"), jp.parse("$") instanceof jp.Query);
 
 // What is unknown, as an answer of fetch, and what is any.
 const told: unknown = { a: 1 };
@@ -77,6 +78,12 @@ jp.find({ a: 1 }, "$.a");
 jp.findMany("$..a", document);
 // @ts-expect-error There is no such option.
 jp.find("$", document, { limits: 1 });
+// @ts-expect-error There are no such numbers.
+jp.find("$", document, { numbers: "decimals" });
+// @ts-expect-error A document has no functions.
+new jp.Document("1", { extended: true });
+// @ts-expect-error A query that is kept has its numbers.
+query.find(document, { numbers: "whole" });
 // @ts-expect-error A limit is a number.
 jp.find("$", document, { limit: "1" });
 // @ts-expect-error Nodes that are given one after another are not counted.
