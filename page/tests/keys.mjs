@@ -2,7 +2,7 @@
 import assert from "node:assert/strict";
 import { STORE, answered, browser, click, editor, open, press, textsOf } from "./shown.mjs";
 
-const MOST_TABS = 7;
+const MOST_TABS = 6;
 const IN_REFERENCE = 'document.querySelector("#reference").contains(document.activeElement)';
 
 async function tellsKeys() {
