@@ -25,7 +25,12 @@ returns-then-not-are_same c =
         made = 0;
         is = (
           (
-            a.form, a.asker.now.query.profile, query_of a.asker.now.query.query, a.document.now.numbers, is, refl,
+            a.form,
+            a.asker.now.query.profile,
+            query_of a.asker.now.query.query,
+            a.document.now.numbers,
+            is,
+            refl,
             λ same. others (c.numbers.ensures ∙ ap numbers c.profile.ensures ∙ same),
           ),
           refl,
