@@ -6,7 +6,7 @@ import assert from "node:assert/strict";
 import { readFileSync } from "node:fs";
 import { Engine } from "../../bindings/node/engine.mjs";
 import * as jp from "../../bindings/node/jp.mjs";
-import { EXTENDED, STANDARD } from "../../bindings/node/numbers.mjs";
+import { DECIMAL, EXTENDED, EXTENDED_DECIMAL, STANDARD } from "../../bindings/node/numbers.mjs";
 import { bytesOf, textOf } from "../../bindings/node/texts.mjs";
 import { translated } from "../src/dialects.mjs";
 import { patternsIn, withPatterns } from "../src/literals.mjs";
@@ -88,11 +88,13 @@ function findsPatterns() {
   });
 }
 
+const PROFILES = { Standard: STANDARD, Extended: EXTENDED, Decimal: DECIMAL, ExtendedDecimal: EXTENDED_DECIMAL };
+
 /** In a query and in its canonical text, which the engine writes, stand the same patterns. */
 function findsThoseOfRows() {
   let count = 0;
   for (const { query, profile: name } of rows.filter((it) => it.refused !== "Query")) {
-    const profile = name === "Extended" ? EXTENDED : STANDARD;
+    const profile = PROFILES[name];
     const canonical = textOf(engine.canonical(bytesOf(query), profile).text);
     const [found, same] = [query, canonical].map((text) => patternsIn(text).map(({ name, pattern }) => [name, pattern]));
     assert.deepEqual(found, same, query);
